@@ -492,6 +492,12 @@ class Look(InFolder):
 
 
 class Refused(InFolder):
+    def test_names_with_control_characters(self):
+        name = self.path("a\nb\x1b.txt", b"text\n")
+        status, out, err = self.run_tool(lines.main, "look", name, self.folder / "no\tfile")
+        self.assertEqual((status, out), (2, f"{self.folder}/a\\nb\\x1b.txt: a text\n"))
+        self.assertEqual(err, f"lines.py: {self.folder}/no\\tfile: No such file or directory\n")
+
     def test_what_is_no_plain_wav_file(self):
         for name, content, said in (
             (

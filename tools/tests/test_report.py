@@ -19,7 +19,9 @@ from test_columns import frames_by_period
 from test_timeline import lay
 
 from trau.pictures import looks
+from trau.runs import call_reports
 from trau.runs import report
+from trau.runs import uplink_reports
 from trau.runs import run_lines
 from trau.runs import run_texts
 from trau.runs.run_lines import Heard, DownlinkKind
@@ -391,7 +393,7 @@ class Losses(Recorded):
     def test_rows(self):
         self.lay_call(self.WORDS)
         rows = self.rows("losses", self.run)
-        self.assertEqual(tuple(rows[0]), report.LOSS_COLUMNS)
+        self.assertEqual(tuple(rows[0]), call_reports.LOSS_COLUMNS)
         wanted = """1 1002 20 20.04 20.44 0.04 1 15 4 speech
 1 1023 1 20.46 20.48 0.46 1 0 0 noise
 1 1028 2 20.56 20.6 0.56 1 1 0 quiet
@@ -411,7 +413,7 @@ class Losses(Recorded):
             report.main, ["losses", self.run, "--calls", "2"], "report.txt: has no call 2"
         )
         self.lay_call("good good sid bad bad")
-        self.assertEqual(self.told("losses", self.run), "  ".join(report.LOSS_COLUMNS) + "\n")
+        self.assertEqual(self.told("losses", self.run), "  ".join(call_reports.LOSS_COLUMNS) + "\n")
 
     def test_what_is_heard_is_as_the_model_makes_it(self):
         for name in ("mixed", "clean", "harsh", "mulaw"):
@@ -640,7 +642,7 @@ class Sync(Told):
             (told["frames"], told["misses"], told["first"], told["losses"]), (20, 0, 0, [])
         )
         self.assertEqual(
-            self.told("sync", self.path("9.up")), "  ".join(report.SYNC_COLUMNS) + "\n"
+            self.told("sync", self.path("9.up")), "  ".join(uplink_reports.SYNC_COLUMNS) + "\n"
         )
 
     def test_broken_bits(self):

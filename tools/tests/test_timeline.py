@@ -15,8 +15,11 @@ from itertools import groupby
 from support import CODEC, EXAMPLES, TOP, InFolder
 
 from trau.runs import levels
+from trau.pictures import layout
 from trau.pictures import looks
 from trau.pictures import picture
+from trau.pictures import rows
+from trau.pictures import svg
 from trau.pictures import timeline
 from trau.rules.frame import FrameKind, bits_of
 from trau.rules.g711 import Law
@@ -125,7 +128,7 @@ class Parts(unittest.TestCase):
         )
         self.assertFalse(
             set(meanings)
-            & {picture.OUT_COLOUR, picture.PCM_COLOUR, picture.BRIDGE_COLOUR, picture.ALARM}
+            & {rows.OUT_COLOUR, rows.PCM_COLOUR, rows.BRIDGE_COLOUR, svg.ALARM}
         )
 
     def test_partners_are_neighbours(self):
@@ -218,7 +221,7 @@ class Farms(InFolder):
             for number, (stamp, text, refusal) in enumerate(words, 1)
         ]
         run = Run(orders, bridges, calls, self.folder)
-        for shape in (picture.FULL, picture.WITHOUT_LEVELS, picture.COMPACT):
+        for shape in (layout.FULL, layout.WITHOUT_LEVELS, layout.COMPACT):
             for width in (1300, 250):
                 drawn = picture.Picture(run, width, shape).draw()
                 self.check_picture(run, ElementTree.fromstring(drawn))
@@ -240,14 +243,14 @@ class Farms(InFolder):
         call = RecordedCall(7, ReportedCall(0, 100000, "end up 0", {}))
         call.kinds = bytes(kinds)
         run = Run([Answered(Order(1, 0, "open", (7,), "open 7"), Reply())], [], [call], self.folder)
-        drawn = picture.Picture(run, 1000, picture.FULL)
+        drawn = picture.Picture(run, 1000, layout.FULL)
         root = ElementTree.fromstring(drawn.draw())
         boxes = [
             box
             for box in root.iter(f"{SVG}rect")
             if (box.findtext(f"{SVG}title") or "").startswith("call 7 from")
         ]
-        height = float(picture.FULL.band)
+        height = float(layout.FULL.band)
         for period, name in lost.items():
             at = drawn.x(period)
             colours = {

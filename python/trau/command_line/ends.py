@@ -7,6 +7,7 @@ tool of this folder ends with a traceback. Status 70: an exception that nobody f
 import contextlib
 import functools
 import os
+import re
 import sys
 import traceback
 from pathlib import Path
@@ -33,10 +34,15 @@ def naming(path: Path) -> Iterator[None]:
         raise
 
 
+def printable(text: str) -> str:
+    """A text with its control characters escaped: names of files may have them."""
+    return re.sub(r"[\x00-\x1f\x7f-\x9f]", lambda found: repr(found[0])[1:-1], text)
+
+
 def complain(name: str, what: str) -> None:
     """Prints the one line on standard error, if anybody can read it."""
     try:
-        print(f"{as_started(name)}: {what}", file=sys.stderr, flush=True)
+        print(f"{as_started(name)}: {printable(what)}", file=sys.stderr, flush=True)
     except OSError:
         pass
 

@@ -1,18 +1,28 @@
-"""How the periods of a call look in a picture: their names, and their colours, of a palette that colour-blind people
-tell apart; and columns of periods, where these are narrower than can be drawn."""
+"""How the periods of a call look in a picture: their names, and their colours, of a palette that
+colour-blind people tell apart; and columns of periods, where these are narrower than can be drawn.
+"""
 
 import enum
 import re
-from typing import Any, Dict, Iterator, List, NamedTuple, Optional, Sequence, Tuple, Type
+from dataclasses import replace
+from typing import Dict, Iterator, List, NamedTuple, Optional, Sequence, Tuple, Type
 
 from trau.rules.profile import FRAME_BITS, PCM_OCTETS
-from trau.runs.octet_columns import table
 from trau.runs.run_lines import NOTHING_SENT, RecordedCall, sent
 from trau.runs.uplink_periods import UNUSABLE, by_what_came_before
 
 
-class UplinkLook(enum.Enum):
-    """What a period of an uplink yields, in the order of the kinds, and two that say more about unusable frames."""
+class Look(enum.Enum):
+    """What is drawn of a period: its words and its colour."""
+
+    def __init__(self, words: str, colour: str) -> None:
+        self.words = words
+        self.colour = colour
+
+
+class UplinkLook(Look):
+    """What a period of an uplink yields, in the order of the kinds, and two that say more about
+    unusable frames."""
 
     SPEECH = ("speech", "#0072B2")
     VALID_SID = ("silence descriptor", "#56B4E9")
@@ -25,23 +35,16 @@ class UplinkLook(enum.Enum):
     PAUSE = ("pause: unusable after a descriptor", "#CFE9F8")
     QUIET = ("quiet: unusable with no speech before", "#E2E2E2")
 
-    def __init__(self, words: str, colour: str) -> None:
-        self.words = words
-        self.colour = colour
 
-
-class DownlinkLook(enum.Enum):
-    """What begins in a period of a downlink, in the order of what is sent. What an uplink has too has its words and colour."""
+class DownlinkLook(Look):
+    """What begins in a period of a downlink, in the order of what is sent. What an uplink has too
+    has its words and colour."""
 
     SPEECH = UplinkLook.SPEECH.value
     SILENCE = UplinkLook.VALID_SID.value
     IDLE = UplinkLook.IDLE.value
     HANDED = ("handed over in a bridge", "#009E73")
     OTHER = UplinkLook.OTHER.value
-
-    def __init__(self, words: str, colour: str) -> None:
-        self.words = words
-        self.colour = colour
 
 
 # Each is drawn wherever it comes, be it for one period of thousands in a column.
@@ -57,27 +60,28 @@ DOWN_LOSSES = (DownlinkLook.OTHER,)
 # A look's code is its place in their order, which for the looks of kinds is the code of the kind.
 CODES = {look: code for kind in (UplinkLook, DownlinkLook) for code, look in enumerate(kind)}
 LOOKS_BEHIND = [
-    table(lambda kind, code=code: code if kind == UNUSABLE else kind)
+    bytes(code if kind == UNUSABLE else kind for kind in range(256))
     for code in (UNUSABLE, CODES[UplinkLook.PAUSE], CODES[UplinkLook.QUIET])
 ]
 
 
 def looks(kinds: bytes) -> bytes:
-    """The codes of how the periods of an uplink look. An unusable frame after a silence descriptor is a pause, in which none is sent. After
-    an idle frame, and before the first usable frame, there is nothing to lose."""
+    """The codes of how the periods of an uplink look. An unusable frame after a silence descriptor
+    is a pause, in which none is sent. After an idle frame, and before the first usable frame, there
+    is nothing to lose."""
     return by_what_came_before(kinds, *LOOKS_BEHIND)
 
 
 def down_looks(call: RecordedCall, octets: bytes, first: int, last: int) -> bytes:
-    """The codes of how the periods of a downlink look, from one of the call on to another, by the last frame that begins in each; the octets
-    are those from the first period on."""
+    """The codes of how the periods of a downlink look, from one of the call on to another, by the
+    last frame that begins in each; the octets are those from the first period on."""
     periods = bytearray([NOTHING_SENT]) * (last - first)
     for made in call.made:
         start = made.place() // FRAME_BITS - first
         skipped = max(0, -start)
         if skipped < made.count and start < len(periods):
-            here = made._replace(
-                octet=made.octet + PCM_OCTETS * (skipped - first), count=made.count - skipped
+            here = replace(
+                made, octet=made.octet + PCM_OCTETS * (skipped - first), count=made.count - skipped
             )
             codes = sent(here, octets)[: len(periods) - start - skipped]
             periods[start + skipped : start + skipped + len(codes)] = codes
@@ -87,18 +91,18 @@ def down_looks(call: RecordedCall, octets: bytes, first: int, last: int) -> byte
 class ColumnPart(NamedTuple):
     """A look, and how much of a column's height it takes, in steps."""
 
-    look: Any
+    look: Look
     steps: int
 
 
 class DrawnStretch(NamedTuple):
-    """Periods in a row that are drawn alike: their first, the one after the last, the parts of their height from the top, and how many have
-    which look."""
+    """Periods in a row that are drawn alike: their first, the one after the last, the parts of
+    their height from the top, and how many have which look."""
 
     start: int
     end: int
     parts: Tuple[ColumnPart, ...]
-    counts: Dict[Any, int]
+    counts: Dict[Look, int]
 
     def said(self) -> str:
         """What the periods are, in words."""
@@ -109,8 +113,9 @@ class DrawnStretch(NamedTuple):
         )
 
 
-def parts_of(counts: Dict[Any, int], losses: Sequence[Any], steps: int) -> Tuple[ColumnPart, ...]:
-    """The parts of a column: each loss by its share of the periods, a step at least, below what most of the others are."""
+def parts_of(counts: Dict[Look, int], losses: Sequence[Look], steps: int) -> Tuple[ColumnPart, ...]:
+    """The parts of a column: each loss by its share of the periods, a step at least, below what
+    most of the others are."""
     total = sum(counts.values())
     others = [look for look in counts if counts[look] and look not in losses]
     left = steps
@@ -131,27 +136,26 @@ def parts_of(counts: Dict[Any, int], losses: Sequence[Any], steps: int) -> Tuple
     return tuple(part for part in parts if part.steps)
 
 
-def counted(values: bytes, kind: Type[enum.Enum], start: int, end: int) -> Dict[Any, int]:
+def counted(values: bytes, kind: Type[Look], start: int, end: int) -> Dict[Look, int]:
     """How many of some periods have which look."""
-    return {
-        look: count
-        for code, look in enumerate(kind)
-        for count in [values.count(code, start, end)]
-        if count
-    }
+    looks_of_codes: Iterator[Look] = iter(kind)
+    counts = {look: values.count(code, start, end) for code, look in enumerate(looks_of_codes)}
+    return {look: count for look, count in counts.items() if count}
 
 
 def column_ends(values: bytes, size: int) -> Iterator[int]:
-    """Where columns of this many periods each end; of single periods, those in a row that look alike."""
+    """Where columns of this many periods each end; of single periods, those in a row that look
+    alike."""
     if size == 1:
         return (found.end() for found in re.finditer(rb"(.)\1*", values, re.DOTALL))
     return iter([*range(size, len(values), size), len(values)] if values else [])
 
 
 def columns(
-    values: bytes, kind: Type[enum.Enum], losses: Sequence[Any], size: int, steps: int
+    values: bytes, kind: Type[Look], losses: Sequence[Look], size: int, steps: int
 ) -> Iterator[DrawnStretch]:
-    """Stretches of columns of so many periods each that show the same; nothing where no period of a column has a look."""
+    """Stretches of columns of so many periods each that show the same; nothing where no period of a
+    column has a look."""
     waiting: Optional[DrawnStretch] = None
     start = 0
     for end in column_ends(values, size):
@@ -170,7 +174,8 @@ def columns(
 
 
 def order_of_rows(numbers: Sequence[int], pairs: Sequence[Sequence[int]]) -> List[int]:
-    """The calls in the order of their rows: each partner of a bridge, in the order of the bridges, next to its call if it can."""
+    """The calls in the order of their rows: each partner of a bridge, in the order of the bridges,
+    next to its call if it can."""
     partners: Dict[int, List[int]] = {number: [] for number in numbers}
     for a, b in pairs:
         if a in partners and b in partners:

@@ -1,22 +1,22 @@
-"""A page of HTML of a run: its totals, failed lines and worst calls, and below them a picture that is drawn anew as one zooms, whose axis and
-names stay as one moves. It is one file, which asks no other for anything."""
+"""A page of HTML of a run: its totals, failed lines and worst calls, and below them a picture that
+is drawn anew as one zooms, whose axis and names stay as one moves. It is one file, which asks no
+other for anything."""
 
 import base64
 import json
 import zlib
-from enum import Enum
 from html import escape
 from pathlib import Path
 from typing import Any, Dict, Iterator, List, Sequence, Type
 
-from trau.runs import call_lines
 from trau.pictures import looks
-from trau.runs import outcomes
-from trau.runs import run_lines
+from trau.pictures.looks import DOWN_LOSSES, LOSSES, DownlinkLook, Look, UplinkLook
+from trau.pictures.picture import Picture
+from trau.pictures.rows import BRIDGE_COLOUR, OUT_COLOUR, PCM_COLOUR
+from trau.pictures.svg import ALARM
 from trau.rules.lines import name_of
 from trau.rules.profile import PERIODS_A_SECOND
-from trau.pictures.looks import DOWN_LOSSES, LOSSES, DownlinkLook, UplinkLook
-from trau.pictures.picture import ALARM, BRIDGE_COLOUR, OUT_COLOUR, PCM_COLOUR, Picture
+from trau.runs import call_lines, outcomes, run_lines
 from trau.runs.run_lines import RecordedCall
 
 MOST_WORST = 10
@@ -61,7 +61,7 @@ def packed(octets: bytes) -> str:
     return base64.b64encode(zlib.compress(octets, 9)).decode()
 
 
-def looks_of(kind: Type[Enum], losses: Sequence[Enum]) -> List[Dict[str, Any]]:
+def looks_of(kind: Type[Look], losses: Sequence[Look]) -> List[Dict[str, Any]]:
     """The looks, by their codes."""
     return [{"words": look.words, "colour": look.colour, "loss": look in losses} for look in kind]
 
@@ -137,9 +137,9 @@ def worst(picture: Picture) -> Iterator[str]:
         cells = (
             f"{100 * outcome.rate():.2f} %",
             outcome.lost,
-            f"{outcome.longest / PERIODS_A_SECOND:.2f} s",
+            f"{outcome.gap.length / PERIODS_A_SECOND:.2f} s",
         )
-        place = "" if outcome.start is None else f"period {call.span.start + outcome.start}"
+        place = f"period {call.span.start + outcome.gap.start}" if outcome.gap.length else ""
         end = escape(", ".join([call.span.cause, *(f"{side} failed" for side in call.failed)]))
         row = "".join(f"<td>{cell}</td>" for cell in (*cells, place, end))
         yield f"<tr><td><button data-call='{call.number}'>call {call.number}</button></td>{row}</tr>"

@@ -1,28 +1,27 @@
-"""Draws a run as one picture, as SVG or as an HTML page that zooms: a row for each call shows what every period of its uplink gave, its
-downlink, levels, bridges, shifts and orders.
+"""Draws a run as one picture, as SVG or as an HTML page that zooms: a row for each call shows what
+every period of its uplink gave, its downlink, levels, bridges, shifts and orders.
 
-It reads the folder of a run, with the calls' lines, the orders and the report, and searches the uplinks itself. If its counts aren't those
-of the report, or a file isn't what it should be, it prints one line on standard error, exits with status 2 and writes nothing.
+It reads the folder of a run, with the calls' lines, the orders and the report, and searches the
+uplinks itself. If its counts aren't those of the report, or a file isn't what it should be, it
+prints one line on standard error, exits with status 2 and writes nothing.
 """
 
 
 import argparse
-import sys
 from pathlib import Path
 from typing import Sequence
 
-from trau.pictures import looks
-from trau.runs import outcomes
-from trau.pictures import picture_page
-from trau.runs import run_texts
-from trau.rules.lines import SIDES, name_of
-from trau.rules.profile import MOST_PERIODS
-from trau.command_line.words import Refusal, Words, number_within, option
-from trau.pictures.picture import COMPACT, FULL, WITHOUT_LEVELS, Picture
-from trau.runs.run_lines import Run
-from trau.command_line.side_by_side import PROCESSES
 from trau.command_line.ends import tool
 from trau.command_line.files import write_file
+from trau.command_line.side_by_side import PROCESSES
+from trau.command_line.words import Refusal, Words, number_within, option
+from trau.pictures import looks, picture_page
+from trau.pictures.layout import COMPACT, FULL, WITHOUT_LEVELS
+from trau.pictures.picture import Picture
+from trau.rules.lines import SIDES, name_of
+from trau.rules.profile import MOST_PERIODS
+from trau.runs import outcomes, run_texts
+from trau.runs.run_lines import Run
 
 MOST_FULL_ROWS = 40
 WIDTHS = 200, 100_000  # the least and the greatest, in pixels

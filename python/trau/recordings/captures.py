@@ -1,7 +1,8 @@
-"""Speech in captures of network packets (RTP, RFC 3550 and RFC 3551): full rate speech, A-law or mu-law to the lines of a call, and lines to
-captures that other programs play.
+"""Speech in captures of network packets (RTP, RFC 3550 and RFC 3551): full rate speech, A-law or
+mu-law to the lines of a call, and lines to captures that other programs play.
 
-The library dpkt reads and writes captures and their packets. Without it, these commands are refused with a word.
+The library dpkt reads and writes captures and their packets. Without it, these commands are refused
+with a word.
 """
 
 import argparse
@@ -10,28 +11,14 @@ from collections import Counter
 from pathlib import Path
 from typing import Iterable, Iterator, List, NamedTuple, Optional, Sequence, Tuple
 
-from trau.runs import run_lines
+from trau.command_line.words import Refusal
 from trau.recordings import uplink_frames
 from trau.recordings.code_word import Marker
-from trau.rules.frame import FrameKind, bits_of, data_of, read_down
-from trau.rules.g711 import Law
-from trau.rules.noise import RandomSource, comfort_noise
-from trau.rules.parameters import (
-    SILENCE,
-    bits_of_parameters,
-    data_of_gsm,
-    gsm_of_data,
-    parameters_of_bits,
-)
-from trau.rules.payload_types import GSM, PCMA, PCMU
-from trau.rules.profile import PCM_OCTETS, SAMPLES_A_SECOND
-from trau.rules.search import FRAME_OF_DOWNLINK, kind_of_period, yields_by_period
-from trau.command_line.words import Refusal
 from trau.recordings.rtp_packets import (
     NAMES,
     PLAIN_TYPES,
-    Packet,
     CapturedStreams,
+    Packet,
     chosen,
     kind_of,
     library,
@@ -50,6 +37,20 @@ from trau.recordings.rtp_streams import (
     without_wrong,
 )
 from trau.recordings.uplink_frames import UplinkFrames
+from trau.rules.frame import FrameKind, bits_of, data_of, read_down
+from trau.rules.g711 import Law
+from trau.rules.noise import RandomSource, comfort_noise
+from trau.rules.parameters import (
+    SILENCE,
+    bits_of_parameters,
+    data_of_gsm,
+    gsm_of_data,
+    parameters_of_bits,
+)
+from trau.rules.payload_types import GSM, PCMA, PCMU
+from trau.rules.profile import PCM_OCTETS, SAMPLES_A_SECOND
+from trau.rules.search import FRAME_OF_DOWNLINK, kind_of_period, yields_by_period
+from trau.runs import run_lines
 from trau.runs.uplink_periods import FRAME_KINDS
 
 LAWS = {PCMA: Law.A, PCMU: Law.MU}
@@ -57,17 +58,18 @@ IDLE_UPLINK = uplink_frames.IDLE
 
 # To lines
 
-# Frames that didn't come, by what shows it: numbers that are missing; time stamps that go on after speech while no number is missing; packets
-# without payload; and time stamps that go on after a silence descriptor.
+# Frames that didn't come, by what shows it: numbers that are missing; time stamps that go on after
+# speech while no number is missing; packets without payload; and time stamps that go on after a
+# silence descriptor.
 LOST, GAP, EMPTIED, PAUSED = "lost", "gap", "empty", "paused"
 
 
 def uplink_of(
     found: Iterable[Stretch], lead: int, marker: Marker, gaps_are_idle: bool
 ) -> Tuple[bytes, str]:
-    """An uplink after a lead of idle frames, and what it has: the frames as they are marked, and unusable ones for those that didn't come, which
-    let the noise of a pause go on. If gaps are idle, the sender has no descriptors and sends nothing in pauses.
-    """
+    """An uplink after a lead of idle frames, and what it has: the frames as they are marked, and
+    unusable ones for those that didn't come, which let the noise of a pause go on. If gaps are
+    idle, the sender has no descriptors and sends nothing in pauses."""
     line = UplinkFrames(marker)
     missing: Counter = Counter()
     for stretch in found:
@@ -98,8 +100,8 @@ def total(found: Sequence[Stretch], kind: type) -> int:
 
 
 def pcm_of(found: Iterable[Stretch], lead: int, sent: Law, law: Law) -> Tuple[bytes, str]:
-    """A Pcm line of whole periods after a lead of idle ones, and what it has, in octets: each octet of the law that was sent as one of the
-    line's, and idle ones where none came."""
+    """A Pcm line of whole periods after a lead of idle ones, and what it has, in octets: each octet
+    of the law that was sent as one of the line's, and idle ones where none came."""
     table, idle, parts = sent.table_to(law), bytes([law.idle()]), list(found)
     octets = (
         bytes(each).translate(table) if isinstance(each, list) else each.units * idle
@@ -117,7 +119,8 @@ MOST_OVERLAP = 1.0  # seconds, in which the streams of a call may overlap that a
 def chosen_streams(
     name: Path, streams: CapturedStreams, numbers: Sequence[int]
 ) -> List[List[Packet]]:
-    """The packets of the streams with these numbers, which follow one another and are of one kind; or of the only one."""
+    """The packets of the streams with these numbers, which follow one another and are of one kind;
+    or of the only one."""
     found = [chosen(name, streams, "--stream", number) for number in numbers or (None,)]
     for at, (before, packets) in enumerate(zip(found, found[1:])):
         overlap = before[-1].time - packets[0].time
@@ -133,8 +136,8 @@ def chosen_streams(
 def line_of(
     name: Path, content: bytes, asked: argparse.Namespace, marker: Marker
 ) -> Tuple[bytes, str, bool]:
-    """A line of the streams of a capture that the words ask for, an uplink of GSM and a Pcm line of the others; what was found; and whether it
-    is an uplink."""
+    """A line of the streams of a capture that the words ask for, an uplink of GSM and a Pcm line of
+    the others; what was found; and whether it is an uplink."""
     streams = streams_of(name, content, asked.partial, {**PLAIN_TYPES, **dict(asked.type)})
     packets = chosen_streams(name, streams, asked.stream)
     lead = 0
@@ -159,7 +162,8 @@ def line_of(
 
 
 class Sound(NamedTuple):
-    """What is sent at a time, in samples from the line's start: a payload, or None for one that is lost."""
+    """What is sent at a time, in samples from the line's start: a payload, or None for one that is
+    lost."""
 
     stamp: int
     payload: Optional[bytes]
@@ -174,10 +178,11 @@ def sounds_of_uplink(octets: bytes) -> Iterator[Sound]:
     heard = run_lines.heard_codes(bytes(map(FRAME_KINDS.index, kinds)))
     for period, (each, kind, code) in enumerate(zip(yields, kinds, heard)):
         stamp = period * PCM_OCTETS
+        data = data_of(each.frame) if each and each.frame else ""
         if kind is FrameKind.VALID_SID:
-            descriptor = parameters_of_bits(data_of(each.frame))
+            descriptor = parameters_of_bits(data)
         if code == run_lines.SPEECH_HEARD:
-            yield Sound(stamp, gsm_of_data(data_of(each.frame)))
+            yield Sound(stamp, gsm_of_data(data))
         elif code == run_lines.NOISE_HEARD:
             yield Sound(stamp, gsm_of_data(bits_of_parameters(comfort_noise(descriptor, source))))
         elif code == run_lines.LOST_HEARD:
@@ -185,7 +190,8 @@ def sounds_of_uplink(octets: bytes) -> Iterator[Sound]:
 
 
 def sounds_of_downlink(octets: bytes) -> Iterator[Sound]:
-    """What a downlink gives, at the time of each frame: speech, comfort noise for silence descriptors, nothing for idle ones."""
+    """What a downlink gives, at the time of each frame: speech, comfort noise for silence
+    descriptors, nothing for idle ones."""
     source = RandomSource(1)
     for found in FRAME_OF_DOWNLINK.finditer(bits_of(octets)):
         frame = read_down(found.group())
@@ -238,7 +244,8 @@ def datagram_of(stream: int, kind: int, sequence: int, marked: bool, sound: Soun
 
 
 def packets_of(stream: int, kind: int, sounds: Iterable[Sound]) -> Iterator[Tuple[float, bytes]]:
-    """The packets of a stream with their times. A lost one takes a number; the first one behind a gap is marked."""
+    """The packets of a stream with their times. A lost one takes a number; the first one behind a
+    gap is marked."""
     following: Optional[int] = None
     for sequence, sound in enumerate(sounds):
         if sound.payload is not None:
@@ -248,7 +255,8 @@ def packets_of(stream: int, kind: int, sounds: Iterable[Sound]) -> Iterator[Tupl
 
 
 def capture_of(lines: Sequence[Tuple[Path, bytes]], law: Law) -> Tuple[bytes, str]:
-    """A capture of the lines, each a stream, those from and to the exchange with this law; and what it has."""
+    """A capture of the lines, each a stream, those from and to the exchange with this law; and what
+    it has."""
     if len(lines) >= 1 << 16:
         raise Refusal(f"{len(lines)} lines: fewer than {1 << 16} make a capture")
     packets: List[Tuple[float, bytes]] = []

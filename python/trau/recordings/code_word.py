@@ -1,7 +1,9 @@
-"""Finds silence descriptors among full rate frames by their code word (GSM 06.12), within the limits of GSM 06.31, section 6.1.
+"""Finds silence descriptors among full rate frames by their code word (GSM 06.12), within the
+limits of GSM 06.31, section 6.1.
 
-A base station looks for the code word and marks the frame by C13 and C14 of its uplink. Files and packets of full rate frames have no such
-marks, so the tools that make uplinks from them do this work of the base station.
+A base station looks for the code word and marks the frame by C13 and C14 of its uplink. Files and
+packets of full rate frames have no such marks, so the tools that make uplinks from them do this
+work of the base station.
 """
 
 from collections import Counter
@@ -19,7 +21,8 @@ PULSES_OF_LAST_BLOCK = 4
 
 
 def code_word_bits() -> Tuple[int, ...]:
-    """The bits of the pulses that class I of GSM 05.03 has: the highest bit of each, and the middle bit of all but nine."""
+    """The bits of the pulses that class I of GSM 05.03 has: the highest bit of each, and the middle
+    bit of all but nine."""
     found = []
     for block in range(BLOCKS):
         end = sum(LARC_WIDTHS) + (block + 1) * sum(
@@ -52,7 +55,8 @@ def errors_of(data: str) -> int:
 
 
 def kind_of(data: str) -> FrameKind:
-    """What D1 to D260 are, by GSM 06.31 section 6.1: a speech frame, a valid or an invalid SID frame."""
+    """What D1 to D260 are, by GSM 06.31 section 6.1: a speech frame, a valid or an invalid SID
+    frame."""
     errors = errors_of(data)
     if errors >= LEAST_ERRORS_OF_SPEECH:
         return FrameKind.SPEECH
@@ -60,7 +64,8 @@ def kind_of(data: str) -> FrameKind:
 
 
 class Marker:
-    """Marks frames as a base station does, and counts the descriptors; or keeps all of them as speech."""
+    """Marks frames as a base station does, and counts the descriptors; or keeps all of them as
+    speech."""
 
     def __init__(self, keeps: bool = False, dtxd: bool = False) -> None:
         self.dtxd = dtxd

@@ -1,15 +1,16 @@
-"""Damage to an uplink: pauses, unusable frames, zeros, alignment fields and slips of bits, at named frames."""
+"""Damage to an uplink: pauses, unusable frames, zeros, alignment fields and slips of bits, at named
+frames."""
 
 import argparse
 import re
 from pathlib import Path
 from typing import Callable, List, NamedTuple, Optional, Sequence, Set, Tuple
 
+from trau.command_line.words import Refusal
 from trau.rules.frame import SPEECH_CLASSES, FrameKind, bits_of, octets_of, read_up, write_up
 from trau.rules.parameters import Block, Parameters, bits_of_parameters, parameters_of_bits
 from trau.rules.profile import FRAME_BITS, TAF_PERIODS
 from trau.rules.search import search
-from trau.command_line.words import Refusal
 
 
 class FrameRange(NamedTuple):
@@ -58,7 +59,8 @@ class AtFrame(NamedTuple):
 
 
 def at_frame(least: int, most: int) -> Callable[[str], AtFrame]:
-    """Reads a word `FRAME:VALUE` whose value is within these ends, and not 0 where it may be negative."""
+    """Reads a word `FRAME:VALUE` whose value is within these ends, and not 0 where it may be
+    negative."""
 
     def read(word: str) -> AtFrame:
         found = re.fullmatch(r"(\d+):([+-]?\d+)", word, re.ASCII)
@@ -81,7 +83,8 @@ def silence_descriptor(speech: Parameters) -> Parameters:
 
 
 def paused(frame: str, number: int, begins: bool) -> str:
-    """What a speech frame becomes in a pause: a silence descriptor where the pause begins and where TAF is 1, else unusable."""
+    """What a speech frame becomes in a pause: a silence descriptor where the pause begins and where
+    TAF is 1, else unusable."""
     taf = number % TAF_PERIODS == TAF_PERIODS - 1
     speech = read_up(frame)
     if not begins and not taf:
@@ -134,7 +137,8 @@ class DamagedUplink:
 
 
 def damaged(name: Path, octets: bytes, asked: argparse.Namespace) -> Tuple[bytes, str]:
-    """An uplink with the damages that the words ask for, done in the order of the kinds, and the number of each."""
+    """An uplink with the damages that the words ask for, done in the order of the kinds, and the
+    number of each."""
     line = DamagedUplink(name, octets)
     count = len(line.frames)
 

@@ -1,7 +1,9 @@
-"""What a file is: by its head, by the frames that are found in it, and else by the statistics of its octets.
+"""What a file is: by its head, by the frames that are found in it, and else by the statistics of
+its octets.
 
-Only the head of a file is read, so a kind says nothing about the rest. The statistics give a guess, which needs a tenth of a second of
-sound. It is plain for speech and for idle lines; if two kinds are about as likely, there is none.
+Only the head of a file is read, so a kind says nothing about the rest. The statistics give a guess,
+which needs a tenth of a second of sound. It is plain for speech and for idle lines; if two kinds
+are about as likely, there is none.
 """
 
 from __future__ import annotations
@@ -13,20 +15,18 @@ from collections import Counter
 from pathlib import Path
 from typing import Callable, Dict, List, Mapping, NamedTuple, NoReturn, Optional, Sequence, Tuple
 
-from trau.runs import frame_kinds
-from trau.recordings import readings
-from trau.recordings import recordings
-from trau.recordings import wav_files
+from trau.command_line.files import STREAM, opened, read_file
+from trau.command_line.words import Refusal, as_started
+from trau.recordings import readings, recordings, wav_files
+from trau.recordings.readings import Reading
 from trau.rules.frame import bits_of
 from trau.rules.g711 import Law
 from trau.rules.orders import FORMS
 from trau.rules.parameters import GSM_MAGIC, GSM_OCTETS
-from trau.rules.profile import FRAME_BITS, PCM_OCTETS, SAMPLES_A_SECOND
+from trau.rules.profile import CHANNELS, FRAME_BITS, PCM_OCTETS, SAMPLES_A_SECOND
 from trau.rules.search import FRAME_OF_DOWNLINK
-from trau.rules.slots import CHANNELS, SLOTS_OF_E1, channel_octets, octets_from, octets_turned
-from trau.command_line.words import Refusal, as_started
-from trau.recordings.readings import Reading
-from trau.command_line.files import STREAM, opened, read_file
+from trau.rules.slots import SLOTS_OF_E1, channel_octets, octets_from, octets_turned
+from trau.runs import frame_kinds
 
 HEAD_OCTETS = 1 << 16
 
@@ -54,8 +54,9 @@ class FileKind(enum.Enum):
 
 
 class FileDescription(NamedTuple):
-    """What a file is: its kind, the same in words, the command that makes something of it, whether its octets have their bits in the other
-    order, and what its slots are. In the command {} stands for the file's name."""
+    """What a file is: its kind, the same in words, the command that makes something of it, whether
+    its octets have their bits in the other order, and what its slots are. In the command {} stands
+    for the file's name."""
 
     kind: FileKind
     said: str
@@ -144,7 +145,8 @@ MAGICS = (
     (FileKind.PACKED, "unzip {}", {b"PK\3\4": "a zip archive"}),
     (FileKind.PROGRAM, "", {b"\x7fELF": "a program or a library"}),
 )
-# Magics that don't begin their files: their places come first. The head of a tar archive has the sync bits of a frame by its digits.
+# Magics that don't begin their files: their places come first. The head of a tar archive has the
+# sync bits of a frame by its digits.
 MAGICS_WITHIN = (
     (4, FileKind.SOUND, FFMPEG, {b"ftyp": "an MP4 or QuickTime file"}),
     (257, FileKind.PACKED, "tar xf {}", {b"ustar": "a tar archive"}),
@@ -192,7 +194,8 @@ LEAST_FRAMES_OF_CUT = 3
 
 
 def is_mostly_magic(octets: bytes) -> bool:
-    """Whether the octets that don't begin a frame of libgsm mostly have the four bits of its magic too."""
+    """Whether the octets that don't begin a frame of libgsm mostly have the four bits of its magic
+    too."""
     others = [
         octet >> 4 == GSM_MAGIC
         for place, octet in enumerate(octets[:HEAD_OCTETS])
@@ -202,7 +205,8 @@ def is_mostly_magic(octets: bytes) -> bool:
 
 
 def by_gsm(head: bytes, size: int) -> Optional[FileDescription]:
-    """Frames of libgsm, each of which begins with its magic, and the other octets of which mostly don't. Zeros may stand for lost frames."""
+    """Frames of libgsm, each of which begins with its magic, and the other octets of which mostly
+    don't. Zeros may stand for lost frames."""
     frames = [head[place : place + GSM_OCTETS] for place in range(0, len(head), GSM_OCTETS)]
     lost = sum(not any(frame) for frame in frames)
     with_magic = sum(frame[0] >> 4 == GSM_MAGIC for frame in frames)
@@ -245,8 +249,9 @@ def by_text(head: bytes, size: int) -> Optional[FileDescription]:
 
 
 class FoundFrames(NamedTuple):
-    """The frames that were found in bits: those of an uplink and those of a downlink, those of other kinds by C1 to C5, the bit at which the
-    first one begins, and the part of the bits from there on that frames cover."""
+    """The frames that were found in bits: those of an uplink and those of a downlink, those of
+    other kinds by C1 to C5, the bit at which the first one begins, and the part of the bits from
+    there on that frames cover."""
 
     up: int
     down: int
@@ -254,22 +259,25 @@ class FoundFrames(NamedTuple):
     first: int
     covered: float
 
-    def count(self) -> int:
+    def total(self) -> int:
         """How many they are."""
         return self.up + self.down + sum(self.others.values())
 
 
-# Sync bits and code words come by chance too, as in programs and in loud square waves, but those of speech hardly in a row.
+# Sync bits and code words come by chance too, as in programs and in loud square waves, but those of
+# speech hardly in a row.
 LEAST_ROW = 3
-# In a channel, which has two of the eight bits of an octet, the signs and segments of idle sound look like a frame at times.
+# In a channel, which has two of the eight bits of an octet, the signs and segments of idle sound
+# look like a frame at times.
 LEAST_COVERED = 0.5
 WAYS = ("up", "down")
 
 
 def frames_of(octets: bytes) -> Optional[FoundFrames]:
-    """The frames of a line. Sync bits alone may come by chance, so most frames must have known code words. Some of full rate speech must follow
-    one another, or the frames must be most of what is there. Those in a row are of one way, or of one other kind, and each begins where the one
-    before ended, or after a shift of the timing."""
+    """The frames of a line. Sync bits alone may come by chance, so most frames must have known code
+    words. Some of full rate speech must follow one another, or the frames must be most of what is
+    there. Those in a row are of one way, or of one other kind, and each begins where the one before
+    ended, or after a shift of the timing."""
     bits = bits_of(octets)
     counts: Counter = Counter()
     most_in_row: Counter = Counter()
@@ -300,13 +308,14 @@ def frames_of(octets: bytes) -> Optional[FoundFrames]:
 
 
 def others_said(frames: FoundFrames) -> str:
-    """The frames of a line of speech that aren't full rate, in words; one or two may be there by chance."""
+    """The frames of a line of speech that aren't full rate, in words; one or two may be there by
+    chance."""
     counts = Counter({code: count for code, count in frames.others.items() if count >= LEAST_ROW})
     kinds = " and ".join(
         f"{count} are {frame_kinds.said_of(code)}" for code, count in counts.most_common()
     )
     return (
-        f"; of the {frames.count()} frames at its start {kinds}, which trau doesn't decode"
+        f"; of the {frames.total()} frames at its start {kinds}, which trau doesn't decode"
         if kinds
         else ""
     )
@@ -339,7 +348,7 @@ def by_frames(head: bytes, size: int) -> Optional[FileDescription]:
     found = [
         (frames_of(octets_turned(head) if turned else head), turned) for turned in (False, True)
     ]
-    frames, turned = max(found, key=lambda each: each[0].count() if each[0] else 0)
+    frames, turned = max(found, key=lambda each: each[0].total() if each[0] else 0)
     if not frames:
         return None
     kind, said = line_said(frames)
@@ -390,15 +399,17 @@ class Alignment(NamedTuple):
         )
 
 
-# A channel has two bits of an octet in a row, so those of a slot stay together if it begins an even number of bits later.
+# A channel has two bits of an octet in a row, so those of a slot stay together if it begins an even
+# number of bits later.
 SLOT_ALIGNMENTS = [Alignment(turned, bit) for bit in (0, 1) for turned in (False, True)]
 LINE_ALIGNMENTS = [Alignment(turned, bit) for bit in range(8) for turned in (False, True)]
 
 
 def by_channels(head: bytes, size: int) -> Optional[FileDescription]:
-    """A time slot that carries lines of frames in its channels of 16 kbit/s, in the alignment that gives more of them."""
+    """A time slot that carries lines of frames in its channels of 16 kbit/s, in the alignment that
+    gives more of them."""
     found = [(frames_of_channels(way.aligned(head)), way) for way in SLOT_ALIGNMENTS]
-    channels, way = max(found, key=lambda each: sum(frames.count() for frames in each[0].values()))
+    channels, way = max(found, key=lambda each: sum(frames.total() for frames in each[0].values()))
     if not channels:
         return None
     said = f"a time slot of 64 kbit/s{way.said()}: {channels_said(channels)}{TURNED * way.turned}"
@@ -419,8 +430,8 @@ def spans_said(numbers: Sequence[int]) -> str:
 def look_of_line(
     what: str, octets: bytes, more: int, way: Alignment, first: int
 ) -> FileDescription:
-    """A whole line that begins with these octets and has more, and its slots from this one on: each with frames alone, and then the others,
-    those that are alike together."""
+    """A whole line that begins with these octets and has more, and its slots from this one on: each
+    with frames alone, and then the others, those that are alike together."""
     found: List[FileDescription] = []
     others: Dict[str, List[int]] = {}
     for number in range(first, SLOTS_OF_E1):
@@ -453,14 +464,15 @@ def look_of_line(
     )
 
 
-# A whole E1 line shows by the frame alignment signal of ITU-T G.704 in every second octet of its slot 0, and by the bit that isn't
-# alike in the octets between.
+# A whole E1 line shows by the frame alignment signal of ITU-T G.704 in every second octet of its
+# slot 0, and by the bit that isn't alike in the octets between.
 SIGNAL, SIGNAL_BITS, OTHER_BIT = 0x1B, 0x7F, 0x40
 LEAST_SIGNALS = 8
 
 
 def has_signal(octets: bytes) -> bool:
-    """Whether the slot 0 of these octets, the first of which is of slot 0, has the signal in each other octet."""
+    """Whether the slot 0 of these octets, the first of which is of slot 0, has the signal in each
+    other octet."""
     slot = octets[::SLOTS_OF_E1]
     for first in (0, 1):
         signals, others = slot[first::2], slot[1 - first :: 2]
@@ -488,7 +500,8 @@ def by_signal(head: bytes, size: int) -> Optional[FileDescription]:
 
 
 def by_slots(head: bytes, size: int) -> Optional[FileDescription]:
-    """A whole line without the signal, of as many slots as an E1 line, in the alignment in which more of their channels have frames."""
+    """A whole line without the signal, of as many slots as an E1 line, in the alignment in which
+    more of their channels have frames."""
     lines = {way: way.aligned(head) for way in SLOT_ALIGNMENTS}
     counts = {
         way: sum(len(frames_of_channels(line[slot::SLOTS_OF_E1])) for slot in range(SLOTS_OF_E1))
@@ -503,7 +516,8 @@ def by_slots(head: bytes, size: int) -> Optional[FileDescription]:
 
 
 def by_constant(head: bytes, more: int) -> Optional[FileDescription]:
-    """An idle line, each octet of which is the same, or of its start if there are more; that of silence has either sign."""
+    """An idle line, each octet of which is the same, or of its start if there are more; that of
+    silence has either sign."""
     if len(head) < PCM_OCTETS or head.count(head[0]) < len(head):
         return None
     said = f"idle{' at its start' * (more > 0)}: each octet is 0x{head[0]:02x}"
@@ -577,7 +591,8 @@ def head_of(path: Path, octets: int = HEAD_OCTETS) -> Tuple[bytes, int]:
 
 
 def of_line(found: FileDescription, name: Path) -> FileDescription:
-    """What is found of a file, with the command that makes sound of it if it has the name of a line from or to the exchange."""
+    """What is found of a file, with the command that makes sound of it if it has the name of a line
+    from or to the exchange."""
     if (
         found.kind is not FileKind.LAW
         or found.turned
@@ -589,7 +604,8 @@ def of_line(found: FileDescription, name: Path) -> FileDescription:
 
 
 def command_for(found: FileDescription, name: Path) -> str:
-    """The command that takes this file, in words that follow what the file is. Only lines.py unpacks what it reads."""
+    """The command that takes this file, in words that follow what the file is. Only lines.py
+    unpacks what it reads."""
     command = as_started(found.command)
     if not found.command.startswith("lines.py "):
         return f"; {recordings.command_of_others(command, name)}" if command else ""
@@ -614,7 +630,8 @@ def refuse_other(
     tests: Tests = TESTS,
     size: int = 0,
 ) -> None:
-    """Refuses a file that is plainly of another kind than the one that is wanted, if any. It may have more octets than these."""
+    """Refuses a file that is plainly of another kind than the one that is wanted, if any. It may
+    have more octets than these."""
     found = known_kind(content[:HEAD_OCTETS], max(size, len(content)), tests)
     if found and found.kind not in (FileKind.EMPTY, wanted):
         refuse(name, found, not_this)

@@ -1,12 +1,15 @@
-"""Files of full rate frames: those of libgsm (.gsm), of 33 octets each, and WAV files of GSM frames, to an uplink; and of a downlink."""
+"""Files of full rate frames: those of libgsm (.gsm), of 33 octets each, and WAV files of GSM
+frames, to an uplink; and of a downlink."""
 
 from collections import Counter
 from pathlib import Path
 from typing import List, Mapping, NamedTuple, Optional, Tuple
 
-from trau.recordings import file_kinds
-from trau.recordings import wav_files
+from trau.command_line.words import Refusal, as_started
+from trau.recordings import file_kinds, wav_files
 from trau.recordings.code_word import Marker
+from trau.recordings.recordings import command_of_others, quoted
+from trau.recordings.uplink_frames import UplinkFrames
 from trau.rules.frame import FrameKind, bits_of, read_down, read_up
 from trau.rules.noise import RandomSource, comfort_noise
 from trau.rules.parameters import (
@@ -21,9 +24,6 @@ from trau.rules.parameters import (
 )
 from trau.rules.profile import SAMPLES_A_SECOND
 from trau.rules.search import FRAME_OF_DOWNLINK
-from trau.command_line.words import Refusal, as_started
-from trau.recordings.recordings import command_of_others, quoted
-from trau.recordings.uplink_frames import UplinkFrames
 
 ZEROS = bytes(GSM_OCTETS)  # what some recorders write for a frame that was lost
 
@@ -31,14 +31,16 @@ ZEROS = bytes(GSM_OCTETS)  # what some recorders write for a frame that was lost
 
 
 class Found(NamedTuple):
-    """D1 to D260 of each frame of a file, None for one that was lost, and the octets after the last whole one."""
+    """D1 to D260 of each frame of a file, None for one that was lost, and the octets after the last
+    whole one."""
 
     data: List[Optional[str]]
     left: int
 
 
 def data_of_file(name: Path, given: bytes, partial: bool, zeros_are_lost: bool) -> Found:
-    """The frames of a file of libgsm; a truncated file is taken with `partial`, and one that has zeros for lost frames if these are lost."""
+    """The frames of a file of libgsm; a truncated file is taken with `partial`, and one that has
+    zeros for lost frames if these are lost."""
     size = GSM_OCTETS
     left = len(given) % size
     whole = given[: len(given) - left]
@@ -128,8 +130,8 @@ def treated(data: str, treatment: str, source: RandomSource) -> Optional[str]:
 
 
 class Treated(NamedTuple):
-    """The frames that are written of a downlink, each with the number of bits before it that belong to no written frame; and what was
-    found, in words."""
+    """The frames that are written of a downlink, each with the number of bits before it that belong
+    to no written frame; and what was found, in words."""
 
     frames: List[Tuple[int, str]]
     said: str

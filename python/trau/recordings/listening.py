@@ -1,38 +1,38 @@
-"""Lines of frames as sound. The frames of a downlink are decoded by the C library if it is built, else by the program `trau`; both give the
-same. An uplink is run by `trau` with an idle Pcm line, so that losses and pauses sound as in a call."""
+"""Lines of frames as sound. The frames of a downlink are decoded by the C library if it is built,
+else by the program `trau`; both give the same. An uplink is run by `trau` with an idle Pcm line, so
+that losses and pauses sound as in a call."""
 
 import os
 import subprocess
-import sys
 import tempfile
 from pathlib import Path
 from types import ModuleType
 from typing import Dict, List, Optional, Sequence, Tuple
 
-from trau.recordings import file_kinds
-from trau.recordings import gsm_files
-from trau.recordings import recordings
-from trau.runs import run_texts
+from trau.command_line.ends import naming
+from trau.command_line.files import read_file
+from trau.command_line.words import Refusal
+from trau.recordings import file_kinds, gsm_files, recordings
 from trau.rules.frame import FrameKind, UpFrame, octets_of, write_up
 from trau.rules.g711 import Law
 from trau.rules.parameters import SILENCE, bits_of_parameters, gsm_of_data
 from trau.rules.profile import FRAME_BITS, FRAME_OCTETS, PCM_OCTETS
 from trau.rules.report import COUNTS
-from trau.command_line.words import Refusal
-from trau.command_line.ends import naming
-from trau.command_line.files import read_file
+from trau.runs import run_texts
 
 TREATMENTS = {"speech": "keep", "silence": "noise", "idle": "quiet", "other": "skip"}
 
 
 def program_beside() -> str:
-    """The script `trau` of the repository or package that has these tools, or else the program of that name on the path."""
+    """The script `trau` of the repository or package that has these tools, or else the program of
+    that name on the path."""
     beside = Path(__file__).resolve().parents[3] / "trau"
     return str(beside) if beside.is_file() else "trau"
 
 
 def program_named(word: str) -> str:
-    """The program that a word names, as it is started from other folders: a path becomes a whole one."""
+    """The program that a word names, as it is started from other folders: a path becomes a whole
+    one."""
     return os.path.abspath(word) if "/" in word else word
 
 
@@ -57,7 +57,8 @@ def library_beside() -> Optional[ModuleType]:
 
 
 def from_here() -> Dict[str, str]:
-    """The environment for a program that is started in another folder: TRAU_PROGRAM may name a path from this one. The word `model` is none."""
+    """The environment for a program that is started in another folder: TRAU_PROGRAM may name a path
+    from this one. The word `model` is none."""
     named = os.environ.get("TRAU_PROGRAM")
     return (
         {**os.environ, "TRAU_PROGRAM": os.path.abspath(named)}
@@ -67,7 +68,8 @@ def from_here() -> Dict[str, str]:
 
 
 def said_by_program(trau: str, words: Sequence[str], folder: str, given: bytes = b"") -> bytes:
-    """What the program prints on standard output for these words and this standard input, in a folder of lines."""
+    """What the program prints on standard output for these words and this standard input, in a
+    folder of lines."""
     with naming(Path(trau)):
         ended = subprocess.run(
             [trau, *words], cwd=folder, input=given, stdout=subprocess.PIPE, env=from_here()
@@ -96,7 +98,8 @@ def decoded_by_program(frames: List[str], trau: str) -> bytes:
 
 
 def decoded(frames: List[str], trau: Optional[str]) -> bytes:
-    """The A-law of frames (D1 to D260 each), by this program, or if none is named, by the library if there is one."""
+    """The A-law of frames (D1 to D260 each), by this program, or if none is named, by the library
+    if there is one."""
     library = None if trau else library_beside()
     if not library:
         return decoded_by_program(frames, trau or program_beside())
@@ -104,8 +107,9 @@ def decoded(frames: List[str], trau: Optional[str]) -> bytes:
 
 
 def alaw_of_downlink(name: Path, octets: bytes, trau: Optional[str]) -> Tuple[bytes, str]:
-    """What is heard of a downlink, and what was found. A period of other bits, as before the first frame, is silence, so that the time
-    stays; shifts of the timing, which are shorter, are left out."""
+    """What is heard of a downlink, and what was found. A period of other bits, as before the first
+    frame, is silence, so that the time stays; shifts of the timing, which are shorter, are left
+    out."""
     found = gsm_files.treated_downlink(name, octets, TREATMENTS)
     frames: List[str] = []
     for before, data in found.frames:
@@ -121,7 +125,8 @@ def is_uplink(name: Path, octets: bytes) -> bool:
 
 
 def alaw_of_uplink(name: Path, octets: bytes, trau: Optional[str]) -> Tuple[bytes, str]:
-    """What a run sends to the exchange of an uplink alone, and the report's counts of what its periods gave. Its Pcm line is idle."""
+    """What a run sends to the exchange of an uplink alone, and the report's counts of what its
+    periods gave. Its Pcm line is idle."""
     periods = len(octets) // FRAME_OCTETS
     if not periods:
         raise Refusal(

@@ -1,9 +1,10 @@
-"""How octets of sound may be read: as A-law or mu-law, with the bits of each octet in either order, or as samples of 16 bits; and which
-reading is the best by statistics.
+"""How octets of sound may be read: as A-law or mu-law, with the bits of each octet in either order,
+or as samples of 16 bits; and which reading is the best by statistics.
 
-Under the right reading, sound changes little from sample to sample beside what it does under a wrong one, and it isn't as loud. So the
-figure of a reading is the logarithm of its roughness (the power of the differences of samples in a row, beside that of the samples)
-and of its loudness, and the least figure is the best.
+Under the right reading, sound changes little from sample to sample beside what it does under a
+wrong one, and it isn't as loud. So the figure of a reading is the logarithm of its roughness (the
+power of the differences of samples in a row, beside that of the samples) and of its loudness, and
+the least figure is the best.
 """
 
 import math
@@ -23,17 +24,20 @@ LEAST_LOUDNESS = 4.0
 LEAST_DISTINCT = 64  # a tone whose period is a few samples has fewer octets, which say nothing
 QUIET = 128.0
 
-# By how much another reading has to be better than the one that is expected. On tones of 50 to 3450 Hz at eight levels, squares and noise a
-# wrong reading was at most 1.1 better than the right one; on speech the right one was 2.5 or more better than each other.
+# By how much another reading has to be better than the one that is expected. On tones of 50 to 3450
+# Hz at eight levels, squares and noise a wrong reading was at most 1.1 better than the right one;
+# on speech the right one was 2.5 or more better than each other.
 PLAIN = 2.0
 PLAIN_TURNED = 3.0
-# By how much the best reading has to be better than the second best, where none is expected; octets in the other order are less likely.
+# By how much the best reading has to be better than the second best, where none is expected; octets
+# in the other order are less likely.
 LEAST_LEAD = 1.0
 HANDICAP = 1.5
 
 
 class Reading(NamedTuple):
-    """How octets may be read: by a law, or as samples of 16 bits (None), with bits in the other order or not."""
+    """How octets may be read: by a law, or as samples of 16 bits (None), with bits in the other
+    order or not."""
 
     law: Optional[Law]
     turned: bool
@@ -77,8 +81,9 @@ def readings_of(octets: bytes) -> Dict[Reading, Figure]:
 
 
 def figures(octets: bytes) -> Dict[Reading, float]:
-    """The figure of each reading that counts; none where octets are too few, or too few different ones. Few octets that are quiet under a
-    law are an idle line, and then the two laws alone count."""
+    """The figure of each reading that counts; none where octets are too few, or too few different
+    ones. Few octets that are quiet under a law are an idle line, and then the two laws alone count.
+    """
     if len(octets) < LEAST_OCTETS:
         return {}
     found = readings_of(octets)
@@ -104,7 +109,8 @@ def best_reading(octets: bytes) -> Optional[Reading]:
 
 
 def plainly_other(octets: bytes, law: Law) -> Optional[Reading]:
-    """The best reading of octets that are said to have this law, if it is another reading and plainly better."""
+    """The best reading of octets that are said to have this law, if it is another reading and
+    plainly better."""
     found = figures(octets[:MOST_OCTETS])
     expected = found.pop(Reading(law, False), 0.0)
 

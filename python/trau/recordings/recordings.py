@@ -1,13 +1,14 @@
-"""Recordings as they are read: files, standard input, and files that gzip packed, whose names end with .gz."""
+"""Recordings as they are read: files, standard input, and files that gzip packed, whose names end
+with .gz."""
 
 import shlex
 import zlib
 from pathlib import Path
 from typing import Iterable, Iterator
 
-from trau.rules.slots import octets_from, octets_turned
-from trau.command_line.words import Refusal
 from trau.command_line.files import opened
+from trau.command_line.words import Refusal
+from trau.rules.slots import octets_from, octets_turned
 
 
 BLOCK_OCTETS = 1 << 20
@@ -27,7 +28,8 @@ def quoted(path: Path) -> str:
 
 
 def command_of_others(command: str, path: Path) -> str:
-    """A command of another program, in which {} stands for the file. If gzip packed the file, it is unpacked first."""
+    """A command of another program, in which {} stands for the file. If gzip packed the file, it is
+    unpacked first."""
     within = name_within(path)
     said = command.replace("{}", quoted(within))
     return said if within == path else f"gunzip -k {quoted(path)}; {said}"
@@ -69,7 +71,8 @@ def read_recording(path: Path, partial: bool = False) -> bytes:
 
 
 def aligned(blocks: Iterable[bytes], turned: bool, bit: int) -> Iterator[bytes]:
-    """The octets of a recorded line, whose bits are in the other order if it is turned, from this bit of the first one on, in blocks."""
+    """The octets of a recorded line, whose bits are in the other order if it is turned, from this
+    bit of the first one on, in blocks."""
     rest = b""
     for block in blocks:
         octets = rest + (octets_turned(block) if turned else block)
@@ -78,7 +81,8 @@ def aligned(blocks: Iterable[bytes], turned: bool, bit: int) -> Iterator[bytes]:
 
 
 def slot_of(blocks: Iterable[bytes], number: int, of: int, skipped: int) -> bytes:
-    """The octets of one slot of a recorded line, which may be longer than the memory: every `of`th one after the skipped ones."""
+    """The octets of one slot of a recorded line, which may be longer than the memory: every `of`th
+    one after the skipped ones."""
     parts, wanted = [], skipped + number
     for block in blocks:
         parts.append(block[wanted::of])

@@ -1,6 +1,8 @@
-"""The packets of a capture: which streams of RTP with speech it has (RFC 3550, RFC 3551), and whether it was cut.
+"""The packets of a capture: which streams of RTP with speech it has (RFC 3550, RFC 3551), and
+whether it was cut.
 
-The library dpkt reads the files of captures and their packets; without it, what is here is refused with a word.
+The library dpkt reads the files of captures and their packets; without it, what is here is refused
+with a word.
 """
 
 import importlib
@@ -23,13 +25,14 @@ from typing import (
     Tuple,
 )
 
+from trau.command_line.words import Refusal
 from trau.rules.parameters import GSM_MAGIC, GSM_OCTETS
 from trau.rules.payload_types import GSM, PCMA, PCMU
 from trau.rules.profile import PERIODS_A_SECOND
-from trau.command_line.words import Refusal
 
 
-# The payload types of RFC 3551 are the kinds of speech here. A dynamic type is one of them if the words say so.
+# The payload types of RFC 3551 are the kinds of speech here. A dynamic type is one of them if the
+# words say so.
 NAMES = {PCMU: "pcmu", GSM: "gsm", PCMA: "pcma"}
 KINDS = {name: kind for kind, name in NAMES.items()}
 PLAIN_TYPES = {kind: kind for kind in NAMES}
@@ -53,8 +56,8 @@ def library(part: str) -> Any:
 
 
 class Packet(NamedTuple):
-    """An RTP packet: its number in the capture, from 1 as other programs count, what it says, and when it was captured. The kind is that of
-    speech, or the payload type of anything else."""
+    """An RTP packet: its number in the capture, from 1 as other programs count, what it says, and
+    when it was captured. The kind is that of speech, or the payload type of anything else."""
 
     number: int
     kind: int
@@ -76,7 +79,8 @@ class Flow(NamedTuple):
         return f"{self.source} to {self.target} ssrc 0x{self.name:08x}"
 
 
-# How packets begin, by the capture's kind of link. Packets without a link begin with IP of either version.
+# How packets begin, by the capture's kind of link. Packets without a link begin with IP of either
+# version.
 LINKS = {
     0: ("loopback", "Loopback"),
     1: ("ethernet", "Ethernet"),
@@ -116,14 +120,16 @@ def is_fragment(outer: Any) -> bool:
     return bool(getattr(outer, "mf", 0) or getattr(outer, "offset", 0))
 
 
-# The places of the lengths of packets: dpkt takes a truncated last packet for a shorter one, and doesn't say what was on the wire.
+# The places of the lengths of packets: dpkt takes a truncated last packet for a shorter one, and
+# doesn't say what was on the wire.
 PCAP_HEAD, PACKET_HEAD, CAPTURED = 24, 16, 8
 PCAPNG_BLOCK, ORDER_MARK, LEAST_BLOCK = b"\x0a\x0d\x0d\x0a", b"\x1a\x2b\x3c\x4d", 12
 PCAPNG_PACKETS, PCAPNG_HEAD, PCAPNG_CAPTURED = (2, 6), 28, 20
 
 
 def by_lengths(content: bytes) -> Tuple[bool, str]:
-    """Whether a pcap or pcapng file ends with a whole packet; and how many of its packets were cut off, in words that follow others."""
+    """Whether a pcap or pcapng file ends with a whole packet; and how many of its packets were cut
+    off, in words that follow others."""
     has_blocks, order = content.startswith(PCAPNG_BLOCK), ">" if content[:1] == b"\xa1" else "<"
     head, lengths = (PCAPNG_HEAD, PCAPNG_CAPTURED) if has_blocks else (PACKET_HEAD, CAPTURED)
     place, packets, cut = 0 if has_blocks else PCAP_HEAD, 0, 0
@@ -186,7 +192,8 @@ def address(octets: bytes, port: int) -> str:
     return f"[{read}]:{port}" if read.version == 6 else f"{read}:{port}"
 
 
-# What payloads are that aren't read here: EFR has the magic 1100 where full rate has 1101 (TS 101 318 of ETSI).
+# What payloads are that aren't read here: EFR has the magic 1100 where full rate has 1101 (TS 101
+# 318 of ETSI).
 EFR_OCTETS, EFR_MAGIC = 31, 0xC
 
 
@@ -222,8 +229,9 @@ def types_said(packets: Sequence[Packet]) -> str:
 
 
 class CapturedStreams(NamedTuple):
-    """The RTP packets of a capture by their flows, in their order; how many with speech weren't captured whole; the streams without speech
-    of the three kinds; and how many of all packets were cut off, in words."""
+    """The RTP packets of a capture by their flows, in their order; how many with speech weren't
+    captured whole; the streams without speech of the three kinds; and how many of all packets were
+    cut off, in words."""
 
     by_flow: Dict[Flow, List[Packet]]
     cut: int
@@ -234,8 +242,8 @@ class CapturedStreams(NamedTuple):
 def streams_of(
     name: Path, content: bytes, partial: bool = False, types: Mapping[int, int] = PLAIN_TYPES
 ) -> CapturedStreams:
-    """The streams of a capture, whose payload types of speech have these kinds. A packet that wasn't captured whole is left out where
-    `partial` says so."""
+    """The streams of a capture, whose payload types of speech have these kinds. A packet that
+    wasn't captured whole is left out where `partial` says so."""
     rtp_kind, errors = library("rtp").RTP, library("dpkt")
     is_whole, cut_off = by_lengths(content)
     streams: Dict[Flow, List[Packet]] = {}
@@ -291,7 +299,8 @@ def kind_of(packets: Sequence[Packet]) -> int:
 
 
 def listed(streams: Dict[Flow, List[Packet]]) -> List[str]:
-    """The streams of a capture, in words, with the times of their first packets from the first one of all on."""
+    """The streams of a capture, in words, with the times of their first packets from the first one
+    of all on."""
     first = min((packets[0].time for packets in streams.values()), default=0.0)
     return [
         f"{place} is {flow.said()}, packets {len(packets)}, {kinds_said(packets)}, from {packets[0].time - first:.2f} s on"
@@ -305,7 +314,8 @@ def flow_said(flow: Flow, packets: Sequence[Packet]) -> str:
 
 
 def chosen(name: Path, found: CapturedStreams, option: str, number: Optional[int]) -> List[Packet]:
-    """The packets of the stream with the number that an option gives, counted from 1, or of the only one."""
+    """The packets of the stream with the number that an option gives, counted from 1, or of the
+    only one."""
     streams = found.by_flow
     if not streams:
         others = types_said([packet for packets in found.others.values() for packet in packets])

@@ -1,21 +1,23 @@
-"""What a stream of RTP carried, in the order of its time stamps: units that came, and units that didn't. A unit is a frame of GSM, or a sample
-of A-law or mu-law. A stream may begin anew with other numbers and stamps; the times of the capture then say how it goes on."""
+"""What a stream of RTP carried, in the order of its time stamps: units that came, and units that
+didn't. A unit is a frame of GSM, or a sample of A-law or mu-law. A stream may begin anew with other
+numbers and stamps; the times of the capture then say how it goes on."""
 
 from dataclasses import dataclass
 from pathlib import Path
 from typing import Any, Dict, Iterator, List, NamedTuple, Optional, Sequence, Tuple, Union
 
-from trau.recordings import rtp_packets
-from trau.rules.parameters import GSM_MAGIC, GSM_OCTETS
-from trau.rules.profile import PCM_OCTETS, SAMPLES_A_SECOND
 from trau.command_line.words import Refusal
+from trau.recordings import rtp_packets
 from trau.recordings.rtp_packets import Packet
+from trau.rules.parameters import GSM_MAGIC, GSM_OCTETS
 from trau.rules.payload_types import GSM
+from trau.rules.profile import PCM_OCTETS, SAMPLES_A_SECOND
 
 # Time stamps count samples, each of them an octet of a Pcm line.
 SEQUENCES, STAMPS = 1 << 16, 1 << 32
 LONGEST_GAP = 3600 * SAMPLES_A_SECOND
-# A time stamp that jumps by more, and by more than the capture's times do, is of a sender that began anew.
+# A time stamp that jumps by more, and by more than the capture's times do, is of a sender that
+# began anew.
 MOST_JUMP = 5 * SAMPLES_A_SECOND
 
 
@@ -68,7 +70,8 @@ def has_jumped(before: Packet, packet: Packet) -> bool:
 
 
 def runs_of(packets: Sequence[Packet], kind: int) -> List[List[Packet]]:
-    """The packets of a stream, as they were captured, from each start of the sender to the next. Only those with speech tell."""
+    """The packets of a stream, as they were captured, from each start of the sender to the next.
+    Only those with speech tell."""
     runs: List[List[Packet]] = [[]]
     before: Optional[Packet] = None
     for packet in packets:
@@ -93,7 +96,8 @@ def refuse_restart(name: Path, before: Packet, packet: Packet) -> None:
 
 
 def in_order(packets: Sequence[Packet], counts: Counts) -> List[Packet]:
-    """The packets in the order of their numbers, which go on counting where they wrap around; each number once."""
+    """The packets in the order of their numbers, which go on counting where they wrap around; each
+    number once."""
     found: Dict[int, Packet] = {}
     newest = packets[0].sequence
     stamp = packets[0].stamp
@@ -112,7 +116,8 @@ def in_order(packets: Sequence[Packet], counts: Counts) -> List[Packet]:
 
 
 def frames_of(payload: bytes) -> Optional[List[bytes]]:
-    """The frames of GSM of a payload, or None if it has anything else. One without payload is a frame that its sender had lost."""
+    """The frames of GSM of a payload, or None if it has anything else. One without payload is a
+    frame that its sender had lost."""
     if not payload:
         return [EMPTY]
     frames = [payload[place : place + GSM_OCTETS] for place in range(0, len(payload), GSM_OCTETS)]
@@ -121,16 +126,20 @@ def frames_of(payload: bytes) -> Optional[List[bytes]]:
 
 
 def units_of(packet: Packet, kind: int) -> List[Any]:
-    """The units of a packet: frames of GSM, or octets, one a sample. None for a packet of another kind."""
+    """The units of a packet: frames of GSM, or octets, one a sample. None for a packet of another
+    kind."""
     if packet.kind != kind:
         return []
-    return (frames_of(packet.payload) or []) if kind == GSM else list(packet.payload)
+    if kind == GSM:
+        return frames_of(packet.payload) or []
+    return list(packet.payload)
 
 
 def without_wrong(
     name: Path, packets: Sequence[Packet], partial: bool, counts: Counts
 ) -> List[Packet]:
-    """The packets whose payload is of their type. Another one is refused or, where `partial` says so, left out, so that it is missing."""
+    """The packets whose payload is of their type. Another one is refused or, where `partial` says
+    so, left out, so that it is missing."""
     wrong = [
         packet for packet in packets if packet.kind == GSM and frames_of(packet.payload) is None
     ]
@@ -147,7 +156,8 @@ def without_wrong(
 
 
 def gap(name: Path, missing: int, units: int, size: int, packet: Packet) -> Iterator[Stretch]:
-    """The stretches between two packets: first what the missing packets held, if they were like the one before."""
+    """The stretches between two packets: first what the missing packets held, if they were like the
+    one before."""
     if units * size > LONGEST_GAP:
         raise Refusal(
             f"{name}: the time stamp of packet {packet.number} is {units * size / SAMPLES_A_SECOND:.0f} s after the packet before;"
@@ -161,7 +171,8 @@ def gap(name: Path, missing: int, units: int, size: int, packet: Packet) -> Iter
 
 
 class Stretches:
-    """The stretches of runs of packets, one after the other. Units that overlap with those before are left out."""
+    """The stretches of runs of packets, one after the other. Units that overlap with those before
+    are left out."""
 
     def __init__(self, name: Path, kind: int, counts: Counts) -> None:
         self.name, self.kind, self.counts = name, kind, counts
@@ -172,7 +183,8 @@ class Stretches:
         ] = None  # where the packet captured last of those before begins, and its time
 
     def start_of(self, packet: Packet) -> int:
-        """Where a run begins whose first packet with speech this is: by the times of the capture, after what came before."""
+        """Where a run begins whose first packet with speech this is: by the times of the capture,
+        after what came before."""
         if self.last is None:
             return 0
         place, time = self.last

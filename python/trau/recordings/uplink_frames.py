@@ -1,5 +1,5 @@
-"""The frames of an uplink that is made of full rate frames, as a base station sends them: what came, unusable frames for what didn't, and
-idle frames."""
+"""The frames of an uplink that is made of full rate frames, as a base station sends them: what
+came, unusable frames for what didn't, and idle frames."""
 
 from typing import Iterable, List, Optional
 
@@ -19,9 +19,9 @@ LOST, LOST_WITH_TAF = unusable(False), unusable(True)
 
 
 class UplinkFrames:
-    """Makes the frames of an uplink in their order. A silence descriptor begins a pause, and good speech or an idle frame ends it. In a pause
-    each 24th frame after a descriptor has TAF 1: the next descriptor is due there, and without any the noise fades.
-    """
+    """Makes the frames of an uplink in their order. A silence descriptor begins a pause, and good
+    speech or an idle frame ends it. In a pause each 24th frame after a descriptor has TAF 1: the
+    next descriptor is due there, and without any the noise fades."""
 
     def __init__(self, marker: Marker) -> None:
         self.marker = marker
@@ -32,24 +32,29 @@ class UplinkFrames:
         """Whether the next frame is in a pause, if it isn't speech."""
         return self.since is not None
 
-    def next_is_due(self) -> bool:
-        """Goes on by a frame that isn't speech, and says whether a descriptor is due in it."""
-        if self.since is None:
-            return False
-        self.since += 1
-        return self.since % TAF_PERIODS == 0
+    def go_on(self) -> None:
+        """Goes on by a frame that isn't speech."""
+        if self.since is not None:
+            self.since += 1
+
+    def is_due(self) -> bool:
+        """Whether a descriptor is due in the frame to which it went on."""
+        return self.since is not None and self.since % TAF_PERIODS == 0
 
     def take(self, data: str) -> None:
         """A frame that came, D1 to D260."""
         kind = self.marker.kind(data)
         is_speech = kind is FrameKind.SPEECH
-        taf = not is_speech and self.next_is_due()
+        self.go_on()
+        taf = not is_speech and self.is_due()
         self.since = None if is_speech else 0
         self.frames.append(octets_of(frame_of(self.marker.control(kind, taf), data)))
 
     def lose(self, count: int = 1) -> None:
         """Frames that didn't come."""
-        self.frames += [LOST_WITH_TAF if self.next_is_due() else LOST for _ in range(count)]
+        for _ in range(count):
+            self.go_on()
+            self.frames.append(LOST_WITH_TAF if self.is_due() else LOST)
 
     def take_all(self, frames: Iterable[Optional[str]]) -> None:
         """Frames that came, D1 to D260 each, and None for each that didn't."""

@@ -6,10 +6,10 @@ from array import array
 from pathlib import Path
 from typing import NamedTuple
 
-from trau.rules.g711 import Law, octets_by_sample
-from trau.rules.profile import SAMPLES_A_SECOND
 from trau.command_line.words import Refusal, as_started
 from trau.recordings.recordings import command_of_others
+from trau.rules.g711 import Law, expand_all, octets_by_sample
+from trau.rules.profile import SAMPLES_A_SECOND
 
 WAV_LINEAR, WAV_ALAW, WAV_MULAW, WAV_GSM, WAV_EXTENSIBLE = 1, 6, 7, 0x31, 0xFFFE
 LAWS_BY_TAG = {WAV_ALAW: Law.A, WAV_MULAW: Law.MU}
@@ -110,3 +110,11 @@ def wav_of(tag: int, sample_bits: int, data: bytes) -> bytes:
         for name, chunk in chunks
     )
     return struct.pack("<4sI", b"RIFF", len(body)) + body
+
+
+def wav_of_law(octets: bytes, law: Law) -> bytes:
+    """A WAV file of 16 bits linear, of octets of a law."""
+    samples = array("h", expand_all(law, octets))
+    if sys.byteorder == "big":
+        samples.byteswap()
+    return wav_of(WAV_LINEAR, 16, samples.tobytes())

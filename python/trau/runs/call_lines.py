@@ -1,14 +1,15 @@
-"""What a picture shows of a call's lines beside its uplink: the frames of its downlink, and the levels of its Pcm and Out lines."""
+"""What a picture shows of a call's lines beside its uplink: the frames of its downlink, and the
+levels of its Pcm and Out lines."""
 
 from pathlib import Path
 from typing import Dict, NamedTuple
 
-from trau.runs import levels
+from trau.command_line.side_by_side import results_of
 from trau.pictures import looks
 from trau.rules.lines import name_of
 from trau.rules.profile import FRAME_OCTETS, PCM_OCTETS
+from trau.runs import levels
 from trau.runs.run_lines import RecordedCall, Run
-from trau.command_line.side_by_side import results_of
 
 LEVEL_SIDES = ("pcm", "out")
 LOWEST_LEVEL = -60  # of a picture, in dBm0
@@ -17,8 +18,9 @@ PERIODS_TOGETHER = 5000  # of a line whose levels are taken
 
 
 class CallLines(NamedTuple):
-    """What the lines of a call have in the periods asked for: the codes of the downlink's looks by periods, and by columns the level of the
-    loudest period, in quarters of a dB above -60 dBm0, 0 to 240; nothing if there is no line."""
+    """What the lines of a call have in the periods asked for: the codes of the downlink's looks by
+    periods, and by columns the level of the loudest period, in quarters of a dB above -60 dBm0, 0
+    to 240; nothing if there is no line."""
 
     down: bytes
     levels: Dict[str, bytes]
@@ -30,7 +32,8 @@ def quarters(level: float) -> int:
 
 
 def levels_of(folder: Path, call: RecordedCall, side: str, periods: range) -> bytes:
-    """The level of a line's loudest period in each column; the periods are those of the call at which columns begin."""
+    """The level of a line's loudest period in each column; the periods are those of the call at
+    which columns begin."""
     if not (folder / name_of(call.number, side)).is_file():
         return b""
     together = max(1, PERIODS_TOGETHER // periods.step) * periods.step
@@ -66,7 +69,8 @@ def lines_of(folder: Path, call: RecordedCall, columns: range, with_levels: bool
 
 
 def read_lines(run: Run, columns: range, with_levels: bool, processes: int) -> Dict[int, CallLines]:
-    """What the lines of a run's calls have in periods of the run, given by those at which columns begin."""
+    """What the lines of a run's calls have in periods of the run, given by those at which columns
+    begin."""
     octets = FRAME_OCTETS + (len(LEVEL_SIDES) * PCM_OCTETS if with_levels else 0)
     pieces = [(run.folder, call, columns, with_levels) for call in run.calls]
     found = results_of(

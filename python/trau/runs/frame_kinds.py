@@ -1,5 +1,6 @@
-"""The kinds of TRAU frames at 16 kbit/s by C1 to C5: the code words of GSM 08.60 section 3.5, and those that GSM 08.61 adds for half rate
-channels. `trau` decodes full rate speech alone; of the others it takes the idle frames, and counts the rest as `other`."""
+"""The kinds of TRAU frames at 16 kbit/s by C1 to C5: the code words of GSM 08.60 section 3.5, and
+those that GSM 08.61 adds for half rate channels. `trau` decodes full rate speech alone; of the
+others it takes the idle frames, and counts the rest as `other`."""
 
 from collections import Counter
 from typing import Iterator, Mapping, NamedTuple

@@ -1,6 +1,6 @@
-"""Levels of lines of A-law and of mu-law in dBm0, the scale of telephony: a sine that just meets the ends of A-law has +3.14 dBm0,
-and one that just meets those of mu-law +3.17 dBm0. The sums of squares are exact, with the library numpy, where it is installed, as without
-it."""
+"""Levels of lines of A-law and of mu-law in dBm0, the scale of telephony: a sine that just meets
+the ends of A-law has +3.14 dBm0, and one that just meets those of mu-law +3.17 dBm0. The sums of
+squares are exact, with the library numpy, where it is installed, as without it."""
 
 import math
 import zlib
@@ -13,12 +13,14 @@ from trau.rules.profile import PCM_OCTETS
 try:
     import numpy
 except ImportError:
-    numpy = None
+    numpy = None  # type: ignore[assignment]
 
-# The magnitude, in samples of 16 bits, at the ends of a law, and the level of a sine that just meets them.
+# The magnitude, in samples of 16 bits, at the ends of a law, and the level of a sine that just
+# meets them.
 OVERLOADS = {Law.A: (32768, 3.14), Law.MU: (32636, 3.17)}
 
-# All samples are multiples of 8 (A-law) or 4 (mu-law). The squares of the multiples, an octet in each of four tables, the greatest first.
+# All samples are multiples of 8 (A-law) or 4 (mu-law). The squares of the multiples, an octet in
+# each of four tables, the greatest first.
 UNITS = {Law.A: 8, Law.MU: 4}
 SQUARES = {law: [(sample // UNITS[law]) ** 2 for sample in samples_by_octet(law)] for law in Law}
 PLANES = {
@@ -32,8 +34,8 @@ PLANES = {
 
 
 def sums_plain(octets: bytes, law: Law) -> List[int]:
-    """The sum of the squares of each whole period. Adler-32 has, in its last 16 bits, 1 and the sum of the octets modulo 65,521, which 160
-    octets don't reach."""
+    """The sum of the squares of each whole period. Adler-32 has, in its last 16 bits, 1 and the sum
+    of the octets modulo 65,521, which 160 octets don't reach."""
     sums_so_far = [0] * (len(octets) // PCM_OCTETS)
     starts = range(0, PCM_OCTETS * len(sums_so_far), PCM_OCTETS)
     for table in PLANES[law]:
@@ -59,7 +61,8 @@ def sums(octets: bytes, law: Law) -> List[int]:
 
 
 def level_of_sum(total: int, law: Law) -> float:
-    """The level of a period by its sum. Mu-law has octets of the sample 0, and nothing but these have no level."""
+    """The level of a period by its sum. Mu-law has octets of the sample 0, and nothing but these
+    have no level."""
     overload, overload_level = OVERLOADS[law]
     mean = total * UNITS[law] ** 2 / PCM_OCTETS
     return overload_level + 10 * math.log10(2 * mean / overload**2) if total else -math.inf

@@ -1,10 +1,11 @@
-"""A mark, as `trau save` prints it and `trau resume` reads it before the orders, and what is wrong with its lines."""
+"""A mark, as `trau save` prints it and `trau resume` reads it before the orders, and what is wrong
+with its lines."""
 
 from dataclasses import dataclass, field
-from typing import Dict, List, Optional, Tuple
+from typing import Dict, Iterable, List, Optional, Tuple
 
-from trau.rules.profile import MOST_CALLS, MOST_PERIODS
 from trau.command_line.word_faults import fault_of_number, faults_of_spaces, shown
+from trau.rules.profile import MOST_CALLS, MOST_PERIODS
 
 MOST_SUM = 4294967295
 
@@ -16,7 +17,8 @@ CALL_FORM = "call C from S out X down Y"
 
 @dataclass
 class CheckedMark:
-    """A mark: its period, the periods at which its calls were opened, where its lines of calls are, and what is wrong with its lines."""
+    """A mark: its period, the periods at which its calls were opened, where its lines of calls are,
+    and what is wrong with its lines."""
 
     period: int = 0
     openings: Dict[int, int] = field(default_factory=dict)
@@ -24,12 +26,11 @@ class CheckedMark:
     faults: Dict[int, List[str]] = field(default_factory=dict)
     lines: int = 0
 
-    def add_faults(self, line: int, faults: List[Optional[str]]) -> bool:
-        """Notes what is wrong with a line; whether nothing is."""
+    def add_faults(self, line: int, faults: Iterable[Optional[str]]) -> None:
+        """Notes what is wrong with a line, if anything."""
         wrong = [each for each in faults if each]
         if wrong:
             self.faults.setdefault(line, []).extend(wrong)
-        return not wrong
 
 
 def faults_of_save(mark: CheckedMark, words: List[str]) -> List[Optional[str]]:
@@ -61,46 +62,44 @@ def faults_of_call(mark: CheckedMark, line: int, words: List[str]) -> List[Optio
     return faults
 
 
+ORDERS_DUE = "where the line orders is due, which ends a mark, "
+
+
+def fault_of_another(content: bytes, is_last: bool) -> str:
+    """What is wrong where a mark's line `orders` is due and another line is there."""
+    if content:
+        return f"{ORDERS_DUE}there is '{shown(content.decode('latin-1'))}'"
+    return ORDERS_DUE + ("the text ends" if is_last else "there is an empty line")
+
+
 def read_mark(octets: bytes) -> Tuple[CheckedMark, bytes]:
-    """The mark at the start of a text, and what comes after it. Where the mark's last line, `orders`, is missing, the orders begin with
-    the first line that is none of a mark."""
+    """The mark at the start of a text, and what comes after it. Where the mark's last line,
+    `orders`, is missing, the orders begin with the first line that is none of a mark."""
     mark = CheckedMark()
-    place = 0
+    rest = octets
     while True:
-        end = octets.find(b"\n", place)
-        content = octets[place:] if end < 0 else octets[place:end]
+        content, line_feed, after = rest.partition(b"\n")
         line = mark.lines + 1
-        faults: List[Optional[str]]
         faults, text = faults_of_spaces(content)
         words = text.split(" ") if text else []
-        if end < 0 and content:
+        is_end = line > 1 and words == ["orders"]
+        if content and not line_feed:
             faults.append("no line feed at its end")
         if line == 1:
-            if not mark.add_faults(1, [*faults, *faults_of_save(mark, words)]) and words[:1] != [
-                "save"
-            ]:
+            mark.add_faults(line, [*faults, *faults_of_save(mark, words)])
+            if words[:1] != ["save"]:
                 return mark, octets
-        elif words == ["orders"]:
-            mark.add_faults(line, faults)
         elif words[:1] == ["call"]:
             mark.add_faults(line, [*faults, *faults_of_call(mark, line, words)])
+        elif is_end:
+            mark.add_faults(line, faults)
         else:
-            what = (
-                f"there is '{shown(content.decode('latin-1'))}'"
-                if content
-                else "the text ends"
-                if end < 0
-                else "there is an empty line"
-            )
-            mark.add_faults(line, [f"where the line orders is due, which ends a mark, {what}"])
-            return mark, octets[place:]
+            mark.add_faults(line, [fault_of_another(content, not line_feed)])
+            return mark, rest
         mark.lines = line
-        if end < 0:
-            if words != ["orders"]:
-                mark.add_faults(
-                    line + 1, ["where the line orders is due, which ends a mark, the text ends"]
-                )
+        if is_end:
+            return mark, after
+        if not line_feed:
+            mark.add_faults(line + 1, [f"{ORDERS_DUE}the text ends"])
             return mark, b""
-        place = end + 1
-        if words == ["orders"] and line > 1:
-            return mark, octets[place:]
+        rest = after

@@ -1,5 +1,6 @@
-"""Octets that stand at the same place of frames in a row, taken together: a column has an octet of each frame. Columns are changed by tables
-of 256 octets and combined as one large number, so that thousands of frames take a few steps."""
+"""Octets that stand at the same place of frames in a row, taken together: a column has an octet of
+each frame. Columns are changed by tables of 256 octets and combined as one large number, so that
+thousands of frames take a few steps."""
 
 from typing import Callable
 
@@ -24,12 +25,12 @@ def joined(*columns: bytes) -> bytes:
     return whole.to_bytes(len(columns[0]), "big")
 
 
-# Where frames begin at bit B of an octet, 0 to 7: an octet's last 8 - B bits, its first B, and both moved to where they belong in an octet of
-# the frame.
-LAST_BITS = [table(lambda octet, bit=bit: octet & 0xFF >> bit) for bit in range(8)]
-FIRST_BITS = [table(lambda octet, bit=bit: octet & ~(0xFF >> bit) & 0xFF) for bit in range(8)]
-TO_FRONT = [table(lambda octet, bit=bit: octet << bit & 0xFF) for bit in range(8)]
-TO_BACK = [table(lambda octet, bit=bit: octet >> 8 - bit) for bit in range(8)]
+# Where frames begin at bit B of an octet, 0 to 7: an octet's last 8 - B bits, its first B, and both
+# moved to where they belong in an octet of the frame.
+LAST_BITS = [bytes(octet & 0xFF >> bit for octet in range(256)) for bit in range(8)]
+FIRST_BITS = [bytes(octet & ~(0xFF >> bit) for octet in range(256)) for bit in range(8)]
+TO_FRONT = [bytes(octet << bit & 0xFF for octet in range(256)) for bit in range(8)]
+TO_BACK = [bytes(octet >> 8 - bit for octet in range(256)) for bit in range(8)]
 
 
 class FrameColumns:

@@ -1,23 +1,28 @@
-"""Says what is wrong with the orders of a run, line by line and in words; `trau run` names only the first bad line. It also strips comments
-and empty lines, which `trau run` doesn't take, from orders, and reckons the number of the order `level` for a tone.
+"""Says what is wrong with the orders of a run, line by line and in words; `trau run` names only the
+first bad line. It also strips comments and empty lines, which `trau run` doesn't take, from orders,
+and reckons the number of the order `level` for a tone.
 
-It warns of orders that are in the grammar but that the run will refuse, and of lines that aren't what their names say.
+It warns of orders that are in the grammar but that the run will refuse, and of lines that aren't
+what their names say.
 """
 
 from __future__ import annotations
 
 
 import argparse
+import inspect
 import math
 import os
-import sys
 from dataclasses import dataclass, field
 from pathlib import Path
 from typing import Dict, List, NamedTuple, Optional, Sequence, Tuple
 
+from trau.command_line.ends import tool
+from trau.command_line.files import STREAM, read_file, write_file
+from trau.command_line.word_faults import fault_of_number, faults_of_spaces, grouped, shown
+from trau.command_line.words import Option, Refusal, Words, as_started, option, switch
 from trau.recordings import file_kinds
-from trau.runs import marks
-from trau.runs import tone_peaks
+from trau.recordings.file_kinds import FileDescription, FileKind
 from trau.rules.board import Board, OrderRefusal
 from trau.rules.g711 import Law
 from trau.rules.lines import INCOMING, name_of, whole_periods
@@ -31,12 +36,8 @@ from trau.rules.profile import (
     MOST_PERIODS,
 )
 from trau.rules.report import Reply
-from trau.command_line.words import Option, Refusal, Words, as_started, option, switch
-from trau.recordings.file_kinds import FileKind, FileDescription
+from trau.runs import marks, tone_peaks
 from trau.runs.outgoing import said_of_outgoing
-from trau.command_line.ends import tool
-from trau.command_line.files import STREAM, read_file, write_file
-from trau.command_line.word_faults import fault_of_number, faults_of_spaces, grouped, shown
 
 # The words after an order's name, as the documents show them; the other orders have only C.
 SHOWN = {"open": "C or S open C mulaw", "bridge": "C D", "level": "C V", "dtx": "C on|off|uplink"}
@@ -72,7 +73,8 @@ def faults_of_words(words: Sequence[str]) -> List[str]:
         faults.append(
             f"too {'few' if len(given) < min(sizes) else 'many'} words: S {name} {SHOWN.get(name, 'C')}"
         )
-    for kind, word in zip(max(FORMS[name], key=len), given):
+    # The last of several forms is the longest.
+    for kind, word in zip(FORMS[name][-1], given):
         if kind == "call":
             faults.append(fault_of_number("call", word, 1, MOST_CALLS))
         elif kind == "level":
@@ -142,7 +144,8 @@ def has_unending(folder: Path, call: int) -> bool:
 
 
 def board_of(folder: Optional[Path]) -> Board:
-    """The board before any order. Where a folder of lines is given, calls also end with their lines, unless nobody knows where these end."""
+    """The board before any order. Where a folder of lines is given, calls also end with their
+    lines, unless nobody knows where these end."""
 
     def end_of(order: Order) -> Optional[int]:
         if folder is None or has_unending(folder, order.calls[0]):
@@ -152,7 +155,7 @@ def board_of(folder: Optional[Path]) -> Board:
     return Board(end_of)
 
 
-def said_of_refusal(board: Board, reply: Reply) -> str:
+def said_of_refusal(board: Board, refusal: OrderRefusal, reply: Reply) -> str:
     """Why an order is refused, by its lines and calls."""
     call, partner = reply.call, reply.partner
     line = board.opened[call].number if call in board.opened else None
@@ -164,7 +167,7 @@ def said_of_refusal(board: Board, reply: Reply) -> str:
         OrderRefusal.SAME_CALL: f"a bridge of call {call} with itself",
         OrderRefusal.DRAINING: f"the bridge of call {call} with call {partner} was ended in this very period",
         OrderRefusal.NUMBER_USED: f"call {call} was opened by line {line}",
-    }[OrderRefusal(reply.refusal)]
+    }[refusal]
 
 
 # What is said of the lines of a call that is opened
@@ -202,7 +205,8 @@ def warning_of_line(folder: Path, order: Order, side: str) -> Optional[str]:
 
 
 def note_on_periods(folder: Path, order: Order) -> Optional[str]:
-    """How many periods of the longer incoming line won't be used, if any; or which line has no period, so that the call has none."""
+    """How many periods of the longer incoming line won't be used, if any; or which line has no
+    period, so that the call has none."""
     if has_unending(folder, order.calls[0]):
         return "a line is a pipe or a device, so that nobody knows when the call ends"
     periods = periods_of_lines(folder, order.calls[0])
@@ -222,7 +226,8 @@ def note_on_periods(folder: Path, order: Order) -> Optional[str]:
 
 
 class Remarks(NamedTuple):
-    """What is said of orders that are in the grammar, by the lines' numbers: warnings, and notes on what is no fault."""
+    """What is said of orders that are in the grammar, by the lines' numbers: warnings, and notes on
+    what is no fault."""
 
     warnings: List[Tuple[int, str]]
     notes: List[Tuple[int, str]]
@@ -237,7 +242,7 @@ def remarks_on(orders: Sequence[Order], folder: Optional[Path]) -> Remarks:
             found.warnings.append(
                 (
                     order.number,
-                    f"the run will refuse it ({reply.refusal:d}): {said_of_refusal(board, reply)}",
+                    f"the run will refuse it ({reply.refusal:d}): {said_of_refusal(board, OrderRefusal(reply.refusal), reply)}",
                 )
             )
         elif order.verb == "open" and folder is not None:
@@ -251,7 +256,8 @@ def remarks_on(orders: Sequence[Order], folder: Optional[Path]) -> Remarks:
 
 
 def open_at(orders: Sequence[Order], folder: Optional[Path], period: int) -> Dict[int, int]:
-    """The calls that are open at a period, before its orders, and the periods at which they were opened."""
+    """The calls that are open at a period, before its orders, and the periods at which they were
+    opened."""
     board = board_of(folder)
     for order in orders:
         if order.stamp < period:
@@ -263,9 +269,9 @@ def open_at(orders: Sequence[Order], folder: Optional[Path], period: int) -> Dic
 def warnings_of_mark(
     mark: marks.CheckedMark, orders: Sequence[Order], folder: Optional[Path]
 ) -> List[Tuple[int, str]]:
-    """What differs between a mark's calls and those that the orders have open at its period, by the mark's lines. Without the folder of
-    the lines a call may have ended with its lines, so that a call that the mark hasn't says nothing.
-    """
+    """What differs between a mark's calls and those that the orders have open at its period, by the
+    mark's lines. Without the folder of the lines a call may have ended with its lines, so that a
+    call that the mark hasn't says nothing."""
     opened, found = open_at(orders, folder, mark.period), []
     for call, line in mark.lines_of_calls.items():
         if call not in opened:
@@ -313,7 +319,15 @@ def check_marked(words: argparse.Namespace, octets: bytes) -> int:
 
 
 def check(words: argparse.Namespace) -> int:
-    """Says what is wrong with the orders of a file."""
+    """Prints what is wrong with each bad line, by the number that `trau run` prints as `orders line
+    N`, and the number and cause of each refusal that the run will give. The last line counts:
+    `orders N bad B warnings W`. Status 0: the run takes the orders. Status 1: a line is bad, or
+    they are too long. Status 2: they can't be read.
+
+    With --mark it also prints what is wrong with the mark before the orders, by the number that
+    `trau resume` prints as `save line N`, and which of its calls these orders don't have open, for
+    which `trau resume` prints `save differs C`. `mark lines N bad B` counts, and what is said of
+    the orders follows."""
     if words.lines is not None and not words.lines.is_dir():
         raise Refusal(f"{words.lines}: isn't a folder")
     octets = read_file(words.orders)
@@ -343,7 +357,8 @@ def say_of_orders(words: argparse.Namespace, text: Text, octets: int) -> int:
 
 
 def strip(words: argparse.Namespace) -> int:
-    """Prints orders without their comments and without empty lines."""
+    """Writes the orders without comments, which begin with # anywhere in a line and the spaces
+    before them, and without empty lines. `trau run` numbers the remaining lines."""
     lines = read_file(words.orders).split(b"\n")
     kept = [line for line in map(without_comment, lines) if line]
     content = b"".join(line + b"\n" for line in kept)
@@ -354,7 +369,8 @@ def strip(words: argparse.Namespace) -> int:
 
 
 def without_comment(line: bytes) -> bytes:
-    """A line without its comment and the spaces before it; a line without a comment stays as it is, unless it has nothing but spaces."""
+    """A line without its comment and the spaces before it; a line without a comment stays as it is,
+    unless it has nothing but spaces."""
     text, mark, _ = line.partition(COMMENT.encode())
     blank = b" \t\r"
     return text.rstrip(blank) if mark or not text.strip(blank) else line
@@ -364,7 +380,10 @@ def without_comment(line: bytes) -> bytes:
 
 
 def level(words: argparse.Namespace) -> int:
-    """Says for which numbers of the order `level` a tone counts as speech."""
+    """Prints up to which number V of the order `S level C V` each frame of a tone on the Pcm line
+    counts as speech, and from which on none does; between them its phase decides. The peaks of its
+    frames are computed as the encoder does it (GSM 06.10, sections 4.2.1 to 4.2.3), for 200 frames
+    at all phases."""
     peaks = tone_peaks.peaks_of_tone(words.dbm0, words.hertz, words.law)
     silence = f"from {max(peaks) + 1}" if max(peaks) < MOST_LEVEL else "never"
     print(
@@ -390,14 +409,6 @@ def figure(name: str, least: float, most: float, what: str) -> Option:
 
 # The words of the command line
 
-CHECK_TEXT = (
-    "Prints what is wrong with each bad line, by the number that `trau run` prints as `orders line N`, and the number and\n"
-    "cause of each refusal that the run will give. The last line counts: `orders N bad B warnings W`. Status 0: the run takes\n"
-    "the orders. Status 1: a line is bad, or they are too long. Status 2: they can't be read.\n\n"
-    "With --mark it also prints what is wrong with the mark before the orders, by the number that `trau resume` prints as\n"
-    "`save line N`, and which of its calls these orders don't have open, for which `trau resume` prints `save differs C`.\n"
-    "`mark lines N bad B` counts, and what is said of the orders follows."
-)
 CHECK_OPTIONS = (
     option(
         "orders",
@@ -419,10 +430,6 @@ CHECK_OPTIONS = (
         "the file is what `trau resume` reads: a mark, as `trau save` prints it, and after it the orders of the whole run",
     ),
 )
-STRIP_TEXT = (
-    "Writes the orders without comments, which begin with # anywhere in a line and the spaces before them, and without\n"
-    "empty lines. `trau run` numbers the remaining lines."
-)
 STRIP_OPTIONS = (
     option(
         "orders",
@@ -441,13 +448,6 @@ STRIP_OPTIONS = (
         help="the file to write (default standard output); never the one that is read",
     ),
 )
-LEVEL_TEXT = (
-    "Prints up to which number V of the order `S level C V` each frame of a tone on the Pcm line counts as speech, and\n"
-    "from which on none does; between them its phase decides. The peaks of its frames are computed as the encoder does it (GSM\n"
-    "06.10, sections 4.2.1 to 4.2.3), for 200 frames at all phases."
-)
-
-
 LEVEL_OPTIONS = (
     figure("dbm0", tone_peaks.LEAST_DBM0, tone_peaks.MOST_DBM0, "the tone's level in dBm0"),
     figure("hertz", tone_peaks.LEAST_HERTZ, tone_peaks.MOST_HERTZ, "its frequency in Hz"),
@@ -469,21 +469,21 @@ def main(words: Sequence[str]) -> int:
     add(
         check,
         "says what is wrong with orders",
-        CHECK_TEXT,
+        inspect.getdoc(check),
         *CHECK_OPTIONS,
         example="orders.txt --lines .",
     )
     add(
         strip,
         "leaves out comments and empty lines",
-        STRIP_TEXT,
+        inspect.getdoc(strip),
         *STRIP_OPTIONS,
         example="<notes.txt | trau run",
     )
     add(
         level,
         "says which number `level` is for a tone",
-        LEVEL_TEXT,
+        inspect.getdoc(level),
         *LEVEL_OPTIONS,
         example="-30 1000",
     )

@@ -1,4 +1,5 @@
-"""What is said, before a run, of a call's outgoing lines: a folder in place of a file, and links that lead to other files."""
+"""What is said, before a run, of a call's outgoing lines: a folder in place of a file, and links
+that lead to other files."""
 
 import os
 import re
@@ -9,7 +10,8 @@ from trau.rules.lines import OUTGOING, name_of
 
 
 def shared_with(path: Path) -> str:
-    """The name of an incoming line in its folder that is the same file as this outgoing one, or nothing."""
+    """The name of an incoming line in its folder that is the same file as this outgoing one, or
+    nothing."""
     if not path.is_file() or not (path.is_symlink() or path.stat().st_nlink > 1):
         return ""
     incoming = (

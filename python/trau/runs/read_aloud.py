@@ -1,15 +1,15 @@
-"""A report in sentences: what became of its orders, bridges and calls. The report's count `bad` has lost frames and the empty frames of
-pauses; the calls' uplinks tell them apart."""
+"""A report in sentences: what became of its orders, bridges and calls. The report's count `bad` has
+lost frames and the empty frames of pauses; the calls' uplinks tell them apart."""
 
 from pathlib import Path
 from typing import Iterator, List, NamedTuple, Optional, Sequence
 
-from trau.runs import run_lines
-from trau.rules.profile import FRAME_OCTETS, PERIODS_A_SECOND
-from trau.rules.report import ReportedBridge, Reply, Report
-from trau.command_line.words import Refusal
-from trau.runs.run_lines import HEARDS, RecordedCall, Heard, longest
 from trau.command_line.side_by_side import results_of
+from trau.command_line.words import Refusal
+from trau.rules.profile import FRAME_OCTETS, PERIODS_A_SECOND
+from trau.rules.report import Reply, Report, ReportedBridge
+from trau.runs import run_lines
+from trau.runs.run_lines import HEARDS, Heard, RecordedCall, longest, stretches
 
 # Why an order was refused: {call} is the call that its line names, {partner} the other one.
 REASONS = {
@@ -66,8 +66,9 @@ def said_of_heard(call: RecordedCall) -> str:
     codes = call.heard()
     counts = {heard: codes.count(code) for code, heard in enumerate(HEARDS)}
     said = [f"{word} {counts[heard]}" for heard, word in HEARD_WORDS.items()]
-    if counts[Heard.LOST]:
-        said[1] += f" (at most {longest(codes, Heard.LOST).length} in a row)"
+    loss = longest(stretches(codes, Heard.LOST))
+    if loss:
+        said[1] += f" (at most {loss.length} in a row)"
     other = call.span.counts["other"]
     more = f"; not full rate speech, and not decoded: {other}" if other else ""
     return ", ".join(said) + more
@@ -99,8 +100,8 @@ class Row(NamedTuple):
 def row_of_call(
     folder: Path, call: RecordedCall, bridges: Sequence[ReportedBridge], is_named: bool
 ) -> Row:
-    """The row of a call, by its uplink in the folder. Where nobody named the folder, an uplink that isn't there or isn't of this run is
-    done without."""
+    """The row of a call, by its uplink in the folder. Where nobody named the folder, an uplink that
+    isn't there or isn't of this run is done without."""
     try:
         call.search(folder, bridges)
     except Refusal:
@@ -113,11 +114,12 @@ def row_of_call(
 def said_of_orders(replies: Sequence[Reply], left: int) -> Iterator[str]:
     """How many orders were accepted, and why others were refused."""
     refused = [
-        (order, reply) for order, reply in enumerate(replies, 1) if reply.refusal is not None
+        f"order {order}: {REASONS[reply.refusal].format(call=reply.call, partner=reply.partner)}"
+        for order, reply in enumerate(replies, 1)
+        if reply.refusal is not None
     ]
     yield f"orders: {len(replies) - len(refused)} accepted, {len(refused)} refused, {left} left"
-    for order, reply in refused:
-        yield f"order {order}: {REASONS[reply.refusal].format(call=reply.call, partner=reply.partner)}"
+    yield from refused
 
 
 def said_of_bridge(bridge: ReportedBridge) -> str:
@@ -130,7 +132,8 @@ def said_of_bridge(bridge: ReportedBridge) -> str:
 
 
 def sentences(report: Report, name: Path, folder: Optional[Path], processes: int) -> List[str]:
-    """The report in sentences. The uplinks are in the folder, or if none is named, perhaps in that of the report."""
+    """The report in sentences. The uplinks are in the folder, or if none is named, perhaps in that
+    of the report."""
     where = folder or name.parent
     pieces = [
         (where, call, run_lines.bridges_of(call, report.bridges), folder is not None)

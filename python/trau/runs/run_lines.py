@@ -1,5 +1,6 @@
-"""The lines of a run's calls beside its report: what each period of an uplink yields and gives to be heard, and the frames of the
-downlink. If the lines don't give what the report says, they are of another run."""
+"""The lines of a run's calls beside its report: what each period of an uplink yields and gives to
+be heard, and the frames of the downlink. If the lines don't give what the report says, they are of
+another run."""
 
 from __future__ import annotations
 
@@ -10,23 +11,23 @@ from dataclasses import dataclass, field
 from pathlib import Path
 from typing import Dict, Iterator, List, NamedTuple, Optional, Sequence
 
-from trau.runs import run_texts
+from trau.command_line.files import read_part
+from trau.command_line.side_by_side import results_of
+from trau.command_line.words import Refusal
 from trau.rules.frame import bits_of, data_of
 from trau.rules.g711 import Law
 from trau.rules.lines import OCTETS_OF_SIDE, OUTGOING, SIDES, name_of
 from trau.rules.orders import Order
 from trau.rules.parameters import SILENCE, bits_of_parameters
 from trau.rules.profile import DOWN_IDLE, DOWN_SPEECH, FRAME_BITS, FRAME_OCTETS, PCM_OCTETS
-from trau.rules.report import ReportedBridge, Reply, Report, ReportedCall
-from trau.command_line.words import Refusal
+from trau.rules.report import Reply, Report, ReportedBridge, ReportedCall
+from trau.runs import run_texts
 from trau.runs.octet_columns import FrameColumns, joined, table
-from trau.command_line.side_by_side import results_of
-from trau.command_line.files import read_part
 from trau.runs.uplink_periods import (
-    SPEECH,
-    IDLE,
-    VALID_SID,
     FRAME_KINDS,
+    IDLE,
+    SPEECH,
+    VALID_SID,
     Asking,
     by_what_came_before,
     searched,
@@ -53,9 +54,7 @@ HEARD_ITSELF = {SPEECH: SPEECH_HEARD, VALID_SID: NOISE_HEARD, IDLE: QUIET_HEARD}
 HEARD_OF_CODE = table(
     lambda code: code & 3 if code & CHANGED else HEARD_ITSELF.get(code, QUIET_HEARD)
 )
-HEARD_BEHIND = [
-    table(lambda _, code=code: CHANGED | code) for code in (LOST_HEARD, NOISE_HEARD, QUIET_HEARD)
-]
+HEARD_BEHIND = [256 * bytes([CHANGED | code]) for code in (LOST_HEARD, NOISE_HEARD, QUIET_HEARD)]
 
 
 def heard_codes(kinds: bytes) -> bytes:
@@ -64,32 +63,35 @@ def heard_codes(kinds: bytes) -> bytes:
 
 
 class Stretch(NamedTuple):
-    """Periods in a row that give the same: how many, and the first, if there is one."""
+    """Periods in a row that give the same: the first, and how many."""
 
+    start: int
     length: int
-    start: Optional[int]
+
+    def end(self) -> int:
+        """The period after the last one."""
+        return self.start + self.length
 
 
 def stretches(heard: bytes, wanted: Heard) -> List[Stretch]:
     """The stretches of a value's code, in their order."""
     code = re.escape(bytes([HEARDS.index(wanted)]))
-    return [Stretch(len(found.group()), found.start()) for found in re.finditer(code + b"+", heard)]
+    return [Stretch(found.start(), len(found.group())) for found in re.finditer(code + b"+", heard)]
 
 
-def longest(heard: bytes, wanted: Heard) -> Stretch:
-    """The first of the longest stretches of a value's code; one of no period if there is none."""
-    return max(
-        stretches(heard, wanted), key=lambda stretch: stretch.length, default=Stretch(0, None)
-    )
+def longest(found: Sequence[Stretch]) -> Optional[Stretch]:
+    """The first of the longest stretches, if there is any."""
+    return max(found, key=lambda stretch: stretch.length) if found else None
 
 
 # The downlink
 
 
-class MadeFrames(NamedTuple):
-    """Frames in a row made for a downlink: the octet of the Pcm line at which the first begins, how many there are, each 160 octets after
-    the one before, whether a bridge handed them over, and the shift, in octets, that the last one adopts.
-    """
+@dataclass(frozen=True)
+class MadeFrames:
+    """Frames in a row made for a downlink: the octet of the Pcm line at which the first begins, how
+    many there are, each 160 octets after the one before, whether a bridge handed them over, and the
+    shift, in octets, that the last one adopts."""
 
     octet: int
     count: int
@@ -101,7 +103,8 @@ class MadeFrames(NamedTuple):
         return (self.octet + PCM_OCTETS - 1) // PCM_OCTETS
 
     def place(self) -> int:
-        """The first frame's first bit on the Down line, which begins with 320 ones; an octet of the Pcm line is two bits."""
+        """The first frame's first bit on the Down line, which begins with 320 ones; an octet of the
+        Pcm line is two bits."""
         return FRAME_BITS + 2 * self.octet
 
     def behind(self) -> int:
@@ -132,7 +135,8 @@ class Handing:
 def frames_made(
     call: int, start: int, periods: int, asking: Sequence[Asking], bridges: Sequence[ReportedBridge]
 ) -> Iterator[MadeFrames]:
-    """The frames that are made for a call's downlink. Frames handed over in a bridge adopt no shift."""
+    """The frames that are made for a call's downlink. Frames handed over in a bridge adopt no
+    shift."""
     handing = Handing(call, start, bridges)
     waiting = iter([*asking, Asking(periods, 0)])
     ask = next(waiting)
@@ -174,7 +178,7 @@ FRAME_WITHOUT_TIME = FRAME_BITS - 4
 # A downlink's frame has C1 to C5 in its octet 2, and C16 (SP) in its octet 38.
 DOWN_KINDS = {int(DOWN_IDLE, 2): DownlinkKind.IDLE, int(DOWN_SPEECH, 2): DownlinkKind.SPEECH}
 DOWN_KIND = table(lambda octet: SENTS.index(DOWN_KINDS.get(octet >> 2 & 31, DownlinkKind.OTHER)))
-DOWN_SPEECH = table(lambda octet: 0 if octet & 2 else 0x10)
+SPEECH_PAUSE = table(lambda octet: 0 if octet & 2 else 0x10)
 DOWN_CODE = table(
     lambda marks: SENTS.index(DownlinkKind.SILENCE)
     if marks == 0x10 | SENTS.index(DownlinkKind.SPEECH)
@@ -194,7 +198,7 @@ def sent(made: MadeFrames, octets: bytes) -> bytes:
     if frames.count <= 0:
         return b""
     codes = joined(
-        frames.column(2).translate(DOWN_KIND), frames.column(38).translate(DOWN_SPEECH)
+        frames.column(2).translate(DOWN_KIND), frames.column(38).translate(SPEECH_PAUSE)
     ).translate(DOWN_CODE)
     return codes.translate(HANDED_CODE) if made.handed else codes
 
@@ -206,7 +210,8 @@ SILENT_DATA = bits_of_parameters(SILENCE)  # D1 to D260
 
 @dataclass
 class RecordedCall:
-    """A call as the report describes it and as its uplink is searched. Only the orders show its law."""
+    """A call as the report describes it and as its uplink is searched. Only the orders show its
+    law."""
 
     number: int
     span: ReportedCall
@@ -224,7 +229,8 @@ class RecordedCall:
         return self.span.end - self.span.start
 
     def octets(self, folder: Path, side: str, first: int = 0, last: Optional[int] = None) -> bytes:
-        """The octets of a line of this call, from a period of the call on to another, those of its own periods at most."""
+        """The octets of a line of this call, from a period of the call on to another, those of its
+        own periods at most."""
         last = self.periods() if last is None else min(last, self.periods())
         octets = OCTETS_OF_SIDE[side]
         if last <= first:
@@ -250,7 +256,8 @@ class RecordedCall:
         )
 
     def search(self, folder: Path, bridges: Sequence[ReportedBridge]) -> RecordedCall:
-        """The call itself, once it has searched the uplink over its periods, and held the report to it."""
+        """The call itself, once it has searched the uplink over its periods, and held the report to
+        it."""
         name = folder / f"{self.number}.up"
         octets = self.octets(folder, "up")
         if len(octets) < self.periods() * FRAME_OCTETS:
@@ -267,8 +274,8 @@ class RecordedCall:
         return self
 
     def check_outgoing(self, folder: Path) -> None:
-        """Refuses an outgoing line that hasn't the octets of the call's periods. One that failed may have fewer; one of a call without
-        periods is an older one."""
+        """Refuses an outgoing line that hasn't the octets of the call's periods. One that failed
+        may have fewer; one of a call without periods is an older one."""
         for side in OUTGOING:
             name, wanted = (
                 folder / name_of(self.number, side),
@@ -292,7 +299,8 @@ class RecordedCall:
         )
 
     def brought(self) -> bytes:
-        """The codes of what the base station sent in each period. A gateway's frame of silence counts as idle: nothing is lost after it."""
+        """The codes of what the base station sent in each period. A gateway's frame of silence
+        counts as idle: nothing is lost after it."""
         return bytes([IDLE]) + self.kinds[1:] if self.is_primed else self.kinds
 
     def heard(self) -> bytes:
@@ -301,7 +309,8 @@ class RecordedCall:
 
 
 def calls_of(report: Report, numbers: Optional[Sequence[int]] = None) -> Iterator[RecordedCall]:
-    """The calls of a report, or those of them with these numbers, whose uplinks aren't searched yet."""
+    """The calls of a report, or those of them with these numbers, whose uplinks aren't searched
+    yet."""
     for number, span in report.calls.items():
         if numbers is None or number in numbers:
             sides = [SIDES[failed.side] for failed in report.failed if failed.call == number]
@@ -316,7 +325,8 @@ def bridges_of(call: RecordedCall, bridges: Sequence[ReportedBridge]) -> List[Re
 def read_calls(
     folder: Path, report: Report, numbers: Optional[Sequence[int]] = None, processes: int = 1
 ) -> Dict[int, RecordedCall]:
-    """The calls of a report, or those of them with these numbers, and what their uplinks in a folder give."""
+    """The calls of a report, or those of them with these numbers, and what their uplinks in a
+    folder give."""
     calls = list(calls_of(report, numbers))
     works = [(call, folder, bridges_of(call, report.bridges)) for call in calls]
     weight = FRAME_OCTETS * sum(call.periods() for call in calls)
@@ -327,7 +337,8 @@ def read_calls(
 
 
 class FrozenShift(NamedTuple):
-    """A shift that frames in a row ask for while a bridge keeps the timing as it is: the first period, and how many ask."""
+    """A shift that frames in a row ask for while a bridge keeps the timing as it is: the first
+    period, and how many ask."""
 
     period: int
     octets: int

@@ -1,7 +1,7 @@
 """The texts of a run: its orders and its report, by their grammar.
 
-A report is taken only where it is whole: its lines stand in their order, its sums are right, and it is, octet for octet, what
-the program writes.
+A report is taken only where it is whole: its lines stand in their order, its sums are right, and it
+is, octet for octet, what the program writes.
 """
 
 import argparse
@@ -10,14 +10,14 @@ import shlex
 from pathlib import Path
 from typing import Dict, List, Optional, Sequence
 
+from trau.command_line.files import read_file
+from trau.command_line.words import Refusal, as_started, option
 from trau.rules.board import OrderRefusal
 from trau.rules.g711 import Law
 from trau.rules.lines import SIDES
 from trau.rules.orders import BadLine, Order, TooLong, orders_of
 from trau.rules.profile import MOST_CALLS, MOST_PERIODS
-from trau.rules.report import COUNTS, ReportedBridge, FailedLine, Reply, Report, ReportedCall
-from trau.command_line.words import Refusal, as_started, option
-from trau.command_line.files import read_file
+from trau.rules.report import COUNTS, FailedLine, Reply, Report, ReportedBridge, ReportedCall
 
 REFUSALS = {
     1: "the call is open",

@@ -1,8 +1,10 @@
-"""Cuts a farm into parts that run independently, on this machine or on others, and joins their reports.
+"""Cuts a farm into parts that run independently, on this machine or on others, and joins their
+reports.
 
-The octets of a call depend only on its own lines and orders and on its bridge partners. So calls that a `bridge` order names stay
-together, even if the order is refused, since a refusal looks at both. All other calls may run anywhere. The joined report and the status
-are those of one run, octet for octet.
+The octets of a call depend only on its own lines and orders and on its bridge partners. So calls
+that a `bridge` order names stay together, even if the order is refused, since a refusal looks at
+both. All other calls may run anywhere. The joined report and the status are those of one run, octet
+for octet.
 """
 
 from __future__ import annotations
@@ -11,6 +13,7 @@ from __future__ import annotations
 import argparse
 import contextlib
 import fcntl
+import inspect
 import json
 import os
 import re
@@ -23,15 +26,15 @@ from dataclasses import dataclass
 from pathlib import Path
 from typing import Dict, FrozenSet, Iterator, List, Optional, Sequence, Tuple
 
+from trau.command_line.ends import naming, tool
+from trau.command_line.files import read_file, write_file
+from trau.command_line.words import Refusal, Words, as_started, number_within, option, switch
 from trau.recordings import listening
-from trau.runs import run_texts
 from trau.rules.lines import INCOMING, OUTGOING, SIDES, name_of, whole_periods
 from trau.rules.orders import Order
 from trau.rules.profile import MOST_CALLS, MOST_PERIODS, PACE_OPTIONS
-from trau.rules.report import ReportedBridge, FailedLine, Reply, Report, ReportedCall
-from trau.command_line.words import Refusal, Words, as_started, number_within, option, switch
-from trau.command_line.ends import naming, tool
-from trau.command_line.files import read_file, write_file
+from trau.rules.report import FailedLine, Reply, Report, ReportedBridge, ReportedCall
+from trau.runs import run_texts
 
 CUT = "cut.json"
 ORDERS = "orders.txt"
@@ -42,8 +45,9 @@ STATUSES_WITH_A_REPORT = (0, 6)
 _, _, DEFAULT_BATCH = PACE_OPTIONS["batch"]  # of trau run
 
 SCRIPT_TEXT = """#!/bin/sh
-# Runs this part of a farm, and keeps its report and its status. Status 0: there is a whole report, which may name lines that
-# failed. TRAU names another program than that of the machine on which the farm was cut.
+# Runs this part of a farm, and keeps its report and its status. Status 0: there is a whole report,
+# which may name lines that failed. TRAU names another program than that of the machine on which the
+# farm was cut.
 case ${{TRAU:-}} in /*) ;; */*) TRAU=$PWD/$TRAU ;; esac
 case ${{TRAU_PROGRAM:-}} in '' | /*) ;; *) TRAU_PROGRAM=$PWD/$TRAU_PROGRAM ;; esac
 cd "$(dirname "$0")" || exit 2
@@ -56,7 +60,8 @@ echo "$status" >status
 case $status in 0 | 6) exit 0 ;; *) exit "$status" ;; esac
 """
 
-# Parts write through links into the folder of the farm. They share its lock, which keeps out runs there and further cuts.
+# Parts write through links into the folder of the farm. They share its lock, which keeps out runs
+# there and further cuts.
 LOCK_TEXT = """farm={farm}
 if [ -r "$farm" ] && command -v flock >/dev/null; then
     locked=0
@@ -66,7 +71,8 @@ if [ -r "$farm" ] && command -v flock >/dev/null; then
 fi
 """
 
-# What a part is given on a cluster: ten times the time measured (docs/PERFORMANCE.md), and more memory than its calls and rounds need.
+# What a part is given on a cluster: ten times the time measured (docs/PERFORMANCE.md), and more
+# memory than its calls and rounds need.
 SLURM_TEXT = """#!/bin/sh
 #SBATCH --job-name=trau
 #SBATCH --array=0-{last}
@@ -109,7 +115,8 @@ class FarmPart:
 
 
 def parts_of(pieces: Sequence[Tuple[int, FrozenSet[int]]], count: int) -> List[FarmPart]:
-    """At most `count` parts of about the same work: the heaviest piece goes first, to the part that has least."""
+    """At most `count` parts of about the same work: the heaviest piece goes first, to the part that
+    has least."""
     parts = [FarmPart() for _ in range(count)]
     for periods, calls in sorted(pieces, key=lambda piece: (-piece[0], min(piece[1]))):
         least = min(parts, key=lambda part: (part.periods, len(part.calls)))
@@ -119,7 +126,8 @@ def parts_of(pieces: Sequence[Tuple[int, FrozenSet[int]]], count: int) -> List[F
 
 
 def copy_line(source: Path, target: Path, side: str) -> None:
-    """Puts a copy of an incoming line into a part. Of an outgoing one it only refuses what the part's line couldn't replace."""
+    """Puts a copy of an incoming line into a part. Of an outgoing one it only refuses what the
+    part's line couldn't replace."""
     if os.path.lexists(source) and not source.is_file():
         raise Refusal(
             f"{source}: isn't a file; only links to such lines can be cut, without --copy"
@@ -197,7 +205,8 @@ def lay_cut(
 
 @contextlib.contextmanager
 def alone_in(farm: Path) -> Iterator[None]:
-    """Locks a farm's folder, as `trau` does. Refuses where another one has it. Where there are no locks it goes on without."""
+    """Locks a farm's folder, as `trau` does. Refuses where another one has it. Where there are no
+    locks it goes on without."""
     try:
         folder = os.open(farm, os.O_RDONLY)
     except OSError:
@@ -238,7 +247,11 @@ def make_cut(words: argparse.Namespace, orders: Sequence[Order], parts: Sequence
 
 
 def cut(words: argparse.Namespace) -> int:
-    """Cuts a farm."""
+    """Makes the folder CUT with the parts 0, 1 and so on. Each has its orders, links to its lines
+    in FOLDER, and `run.sh`, which runs it. `slurm.sh` runs all as an array of Slurm's jobs. Prints
+    `shard parts K components M calls C orders N largest L heaviest H of P array 0-J`: C calls are
+    opened; L, H and P are the periods of the largest component, of the heaviest part and of all
+    calls; J is K - 1. While a part runs on links, no run and no other cut may have FOLDER."""
     name = words.orders or words.folder / ORDERS
     orders = run_texts.read_orders(name)
     if not words.folder.is_dir():
@@ -344,7 +357,8 @@ def report_of_part(cut: Cut, number: int) -> Report:
 
 
 def accepted_bridges(cut: Cut, number: int, report: Report) -> Iterator[Tuple[int, ReportedBridge]]:
-    """The bridges of a part, each with the number of its order; a report lists them as they were accepted."""
+    """The bridges of a part, each with the number of its order; a report lists them as they were
+    accepted."""
     bridges = iter(report.bridges)
     for order, reply in zip(cut.orders_of_parts[number], report.replies):
         if reply.refusal is None and cut.orders[order - 1].verb == "bridge":
@@ -375,7 +389,10 @@ def joined(cut: Cut) -> Report:
 
 
 def join(words: argparse.Namespace) -> int:
-    """Joins the reports of a farm that was cut. If the lines were copied, brings the outgoing ones to the farm's folder."""
+    """Prints the report of the one run; the status is 0, or 6 if lines failed, as in the one run.
+    If the lines were copied, it brings the outgoing ones to the farm's folder. If a part has no
+    whole report, or its report isn't one of its orders and its number of periods, it says which
+    part, writes nothing and exits with status 2."""
     cut = Cut.read(words.cut)
     check_all_were_run(cut)
     report = joined(cut)
@@ -399,12 +416,6 @@ def join(words: argparse.Namespace) -> int:
 OLD_NAMES = {"split": "cut", "merge": "join"}
 
 
-CUT_TEXT = (
-    "Makes the folder CUT with the parts 0, 1 and so on. Each has its orders, links to its lines in FOLDER, and\n"
-    "`run.sh`, which runs it. `slurm.sh` runs all as an array of Slurm's jobs. Prints `shard parts K components M calls C orders N\n"
-    "largest L heaviest H of P array 0-J`: C calls are opened; L, H and P are the periods of the largest component, of the heaviest\n"
-    "part and of all calls; J is K - 1. While a part runs on links, no run and no other cut may have FOLDER."
-)
 CUT_OPTIONS = (
     option("folder", type=Path, metavar="FOLDER", help="the farm: its lines and orders"),
     option("cut", type=Path, metavar="CUT", help="the folder to make"),
@@ -434,11 +445,6 @@ CUT_OPTIONS = (
     option("--batch", type=number_within(1, 250), metavar="N", help="as of trau run"),
     option("--periods", type=number_within(1, MOST_PERIODS), metavar="N", help="as of trau run"),
 )
-JOIN_TEXT = (
-    "Prints the report of the one run; the status is 0, or 6 if lines failed, as in the one run. If the lines were\n"
-    "copied, it brings the outgoing ones to the farm's folder. If a part has no whole report, or its report isn't one of its\n"
-    "orders and its number of periods, it says which part, writes nothing and exits with status 2."
-)
 
 
 def parser() -> Words:
@@ -446,11 +452,11 @@ def parser() -> Words:
     example = "example: shard.py cut farm cut --parts 4; parallel sh {}/run.sh ::: cut/[0-9]*; shard.py join cut >report.txt"
     words = Words(__doc__, epilog=example)
     add = words.commands()
-    add(cut, "makes a folder with the parts of a farm", CUT_TEXT, *CUT_OPTIONS)
+    add(cut, "makes a folder with the parts of a farm", inspect.getdoc(cut), *CUT_OPTIONS)
     add(
         join,
         "joins the reports of the parts",
-        JOIN_TEXT,
+        inspect.getdoc(join),
         option("cut", type=Path, metavar="CUT", help="the folder that `cut` made"),
     )
     return words

@@ -1,13 +1,14 @@
-"""Where and why the search for frames lost an uplink: which of the 35 sync bits broke, what the search did, and where the next match is."""
+"""Where and why the search for frames lost an uplink: which of the 35 sync bits broke, what the
+search did, and where the next match is."""
 
 from dataclasses import dataclass, field
 from pathlib import Path
 from typing import Iterator, List, NamedTuple, Optional, Sequence
 
+from trau.command_line.words import Refusal
 from trau.rules.frame import bits_of
 from trau.rules.profile import FRAME_BITS, FRAME_OCTETS, MISSES_TO_HUNT
 from trau.rules.search import FRAME, Yield, end_of_text, search
-from trau.command_line.words import Refusal
 
 
 SYNC_ZEROS = tuple(range(16))
@@ -31,7 +32,8 @@ class Miss(NamedTuple):
 
 @dataclass
 class Loss:
-    """Misses in a row after a frame, the next frame that the search found, and the next match at any bit."""
+    """Misses in a row after a frame, the next frame that the search found, and the next match at
+    any bit."""
 
     misses: List[Miss] = field(default_factory=list)
     found: Optional[int] = None
@@ -48,7 +50,8 @@ class Loss:
         return self.misses[-1].place + FRAME_BITS
 
     def slip(self) -> Optional[int]:
-        """The distance in bits, -159 to 160, of the next match from the places where frames were due; None without a match."""
+        """The distance in bits, -159 to 160, of the next match from the places where frames were
+        due; None without a match."""
         if self.match is None:
             return None
         offset = (self.match - self.due()) % FRAME_BITS

@@ -1,5 +1,6 @@
-"""The peaks of a tone's frames, which discontinuous transmission compares with a call's level: the greatest magnitude of a frame's samples
-after preprocessing (GSM 06.10, sections 4.2.1 to 4.2.3, and this project's profile)."""
+"""The peaks of a tone's frames, which discontinuous transmission compares with a call's level: the
+greatest magnitude of a frame's samples after preprocessing (GSM 06.10, sections 4.2.1 to 4.2.3, and
+this project's profile)."""
 
 import math
 from typing import List
@@ -13,7 +14,8 @@ from trau.runs.levels import OVERLOADS
 LEAST_DBM0, MOST_DBM0 = -60.0, 3.0
 LEAST_HERTZ, MOST_HERTZ = 50.0, 3950.0
 
-# The frames of a tone that are looked at, and those before them, in which the offset compensation settles.
+# The frames of a tone that are looked at, and those before them, in which the offset compensation
+# settles.
 FRAMES, SETTLING_FRAMES = 200, 30
 
 
@@ -27,8 +29,9 @@ def tone(dbm0: float, hertz: float, phase: float, law: Law, samples: int) -> byt
 
 
 def peaks_of_tone(dbm0: float, hertz: float, law: Law) -> List[int]:
-    """The peaks of whole frames of a tone, once the preprocessing has settled. So that the samples also meet a tone at all its phases whose
-    frequency divides theirs, it goes by a turn too fast over all these frames."""
+    """The peaks of whole frames of a tone, once the preprocessing has settled. So that the samples
+    also meet a tone at all its phases whose frequency divides theirs, it goes by a turn too fast
+    over all these frames."""
     samples = PCM_OCTETS * (SETTLING_FRAMES + FRAMES)
     drift = SAMPLES_A_SECOND / (PCM_OCTETS * FRAMES)
     octets = tone(dbm0, hertz + drift, 0, law, samples)

@@ -1,5 +1,6 @@
-"""What each period of an uplink yields, by columns of octets. It is the search of `core.search`, which goes bit by bit; a period
-takes an octet here, and an hour of a line some hundredths of a second."""
+"""What each period of an uplink yields, by columns of octets. It is the search of `core.search`,
+which goes bit by bit; a period takes an octet here, and an hour of a line some hundredths of a
+second."""
 
 import re
 from typing import Iterator, List, NamedTuple, Optional, Tuple
@@ -14,7 +15,8 @@ SPEECH, VALID_SID, INVALID_SID, UNUSABLE, IDLE, OTHER, MISSED, NONE = range(
     len(FRAME_KINDS)
 )  # codes: the places of the kinds in their order
 
-# The frame's octets 2 and 3 are a sync bit, C1 to C5 (what it is), C6 to C11 (the alignment field), C12 (BFI), C13 and C14 (SID), C15 (TAF).
+# The frame's octets 2 and 3 are a sync bit, C1 to C5 (what it is), C6 to C11 (the alignment field),
+# C12 (BFI), C13 and C14 (SID), C15 (TAF).
 IS_IDLE, IS_OTHER, IS_MISSED = 0x10, 0x20, 0x40
 PATTERNS = {int(UP_SPEECH, 2): 0, int(UP_IDLE, 2): IS_IDLE}
 PATTERN = table(lambda octet: PATTERNS.get(octet >> 2 & 31, IS_OTHER))
@@ -68,7 +70,8 @@ def missed(frames: FrameColumns) -> bytes:
 
 
 def read(frames: FrameColumns) -> Tuple[bytes, bytes]:
-    """The code of each frame, and the alignment field of each that asks for a shift, 0 of the others."""
+    """The code of each frame, and the alignment field of each that asks for a shift, 0 of the
+    others."""
     front, back = frames.column(2), frames.column(3)
     codes = joined(front.translate(PATTERN), back.translate(CLASS), missed(frames)).translate(CODE)
     fields = joined(
@@ -77,7 +80,8 @@ def read(frames: FrameColumns) -> Tuple[bytes, bytes]:
     return codes, fields.translate(ASKING)
 
 
-# The hunt for a frame at any bit. Sixteen zeros and a one have a zero octet, and after it one that isn't zero.
+# The hunt for a frame at any bit. Sixteen zeros and a one have a zero octet, and after it one that
+# isn't zero.
 
 
 def octets_with(wanted: Iterator[int]) -> bytes:
@@ -108,7 +112,8 @@ def hunt(octets: bytes, place: int) -> Optional[int]:
         if FRAMES_AT_BITS[bit].match(octets, first):
             return 8 * first + bit
     found = FRAME_ANYWHERE.search(octets, first + 1)
-    return 8 * found.start() + found.lastindex - 1 if found else None
+    # Each bit of an octet has a group of the pattern.
+    return 8 * found.start() + (found.lastindex or 1) - 1 if found else None
 
 
 # The search
@@ -152,14 +157,16 @@ def tracks(octets: bytes) -> Iterator[Track]:
 
 
 class Asking(NamedTuple):
-    """A period whose frame asks for a shift of the downlink's timing, by so many octets of the Pcm line."""
+    """A period whose frame asks for a shift of the downlink's timing, by so many octets of the Pcm
+    line."""
 
     period: int
     octets: int
 
 
 class Searched(NamedTuple):
-    """What an uplink gives: the code of each whole period's kind, and the periods that ask for shifts."""
+    """What an uplink gives: the code of each whole period's kind, and the periods that ask for
+    shifts."""
 
     kinds: bytes
     asking: List[Asking]
@@ -187,8 +194,9 @@ USED = re.compile(
 
 
 def by_what_came_before(kinds: bytes, good: bytes, pause: bytes, quiet: bytes) -> bytes:
-    """The periods' codes, where each frame that isn't good, a descriptor or idle is changed by a table: that for frames behind a good one,
-    behind a descriptor, or behind an idle one and before the first."""
+    """The periods' codes, where each frame that isn't good, a descriptor or idle is changed by a
+    table: that for frames behind a good one, behind a descriptor, or behind an idle one and before
+    the first."""
     after = {SPEECH: good, VALID_SID: pause, IDLE: quiet}
 
     def changed(found: re.Match) -> bytes:

@@ -1,8 +1,10 @@
-"""Shows how far a run is, and when it will be done, while `trau run <orders.txt >report.txt` works in a folder.
+"""Shows how far a run is, and when it will be done, while `trau run <orders.txt >report.txt` works
+in a folder.
 
-It reads the sizes of the lines, and writes nothing. A run writes its report at its end, in one piece. While the report's file is empty and
-a process has the lock of the folder, the run goes on; outgoing lines that are older than this file are from an earlier run. Status 1:
-there is no run, or it ended without a report, or its lines have stopped growing.
+It reads the sizes of the lines, and writes nothing. A run writes its report at its end, in one
+piece. While the report's file is empty and a process has the lock of the folder, the run goes on;
+outgoing lines that are older than this file are from an earlier run. Status 1: there is no run, or
+it ended without a report, or its lines have stopped growing.
 """
 
 from __future__ import annotations
@@ -17,14 +19,14 @@ from dataclasses import dataclass
 from pathlib import Path
 from typing import Callable, Dict, Iterator, List, NamedTuple, Optional, Sequence
 
-from trau.runs import run_texts
+from trau.command_line.ends import complain, tool
+from trau.command_line.files import read_file
+from trau.command_line.words import Refusal, Words, number_within, option, switch
 from trau.rules.board import Board
 from trau.rules.lines import INCOMING, OUTGOING, name_of, whole_periods
 from trau.rules.orders import Order
 from trau.rules.profile import MOST_PERIODS
-from trau.command_line.words import Refusal, Words, number_within, option, switch
-from trau.command_line.ends import complain, tool
-from trau.command_line.files import read_file
+from trau.runs import run_texts
 
 
 def expected_periods(folder: Path, orders: Sequence[Order], periods: int) -> Dict[int, int]:
@@ -44,8 +46,8 @@ class NoRun(Exception):
 
 
 class RunProgress(NamedTuple):
-    """How far runs are: periods of calls that are on the lines, and calls that are done; when the first run began, and
-    whether all have ended."""
+    """How far runs are: periods of calls that are on the lines, and calls that are done; when the
+    first run began, and whether all have ended."""
 
     periods: int
     calls: int
@@ -58,8 +60,8 @@ NOT_LOCKED = "no process of this machine has the folder's lock"
 
 
 def is_locked(folder: Path) -> Optional[bool]:
-    """Whether a process has a folder's lock, as `trau` takes it, or None where the system doesn't show locks. (Trying the lock might keep
-    out a run that starts just then.)"""
+    """Whether a process has a folder's lock, as `trau` takes it, or None where the system doesn't
+    show locks. (Trying the lock might keep out a run that starts just then.)"""
     try:
         locks, inode = LOCKS.read_text().splitlines(), folder.stat().st_ino
     except OSError:
@@ -69,8 +71,8 @@ def is_locked(folder: Path) -> Optional[bool]:
 
 @dataclass
 class Watched:
-    """The folder of a run. A single look takes a run with lines that nobody has locked for ended; else its lock has to be gone, since
-    some runs have none."""
+    """The folder of a run. A single look takes a run with lines that nobody has locked for ended;
+    else its lock has to be gone, since some runs have none."""
 
     folder: Path
     report: Path
@@ -106,7 +108,8 @@ class Watched:
         return min(self.expected[call], whole_periods(self.folder, call, "out"))
 
     def progress(self) -> RunProgress:
-        """How far this run is. The lock is looked at first: a run lets it go after its report is written."""
+        """How far this run is. The lock is looked at first: a run lets it go after its report is
+        written."""
         locked = is_locked(self.folder)
         if not self.report.is_file():
             return RunProgress(0, 0, time.time(), False)
@@ -143,7 +146,8 @@ class Pace(NamedTuple):
 
     @staticmethod
     def of(runs: Sequence[Watched], first: RunProgress) -> Pace:
-        """Of one run from its beginning; of several from the first look, since nothing shows when the ended ones began."""
+        """Of one run from its beginning; of several from the first look, since nothing shows when
+        the ended ones began."""
         return Pace(first.began, 0) if len(runs) == 1 else Pace(time.time(), first.periods)
 
     def seconds_left(self, progress: RunProgress, expected: int) -> Optional[float]:
@@ -165,7 +169,8 @@ def said(progress: RunProgress, expected: int, calls: int, left: Optional[float]
 def display(
     words: argparse.Namespace, expected: int
 ) -> Iterator[Callable[[RunProgress, str], None]]:
-    """What shows the progress: a bar of the library tqdm at a terminal where that is installed, else lines of text."""
+    """What shows the progress: a bar of the library tqdm at a terminal where that is installed,
+    else lines of text."""
     tqdm = None
     if not words.plain and sys.stdout.isatty():
         with contextlib.suppress(ImportError):
@@ -221,7 +226,8 @@ def watch(words: argparse.Namespace) -> int:
 
 @tool("watch.py")
 def main(words: Sequence[str]) -> int:
-    """Runs the words of the command line. Returns 0 if all runs ended with a report or go on, else 1."""
+    """Runs the words of the command line. Returns 0 if all runs ended with a report or go on, else
+    1."""
     reader = Words(
         __doc__,
         option(
