@@ -11,7 +11,8 @@ from trau.rules.parameters import Block, Parameters, bits_of_parameters
 CODEC = TOP / "checks" / "vectors"
 CHECKS = TOP / "checks"
 
-# The parameters of 160 samples 0 from home, the frames up and down that carry them, and the idle frame down.
+# The parameters of 160 samples 0 from home, the frames up and down that carry them, and the idle
+# frame down.
 QUIET_BLOCK = Block(40, 0, 0, 0, (4,) * 13)
 QUIET = Parameters((32, 32, 20, 11, 8, 5, 3, 2), (QUIET_BLOCK,) * 4)
 DATA = bytes.fromhex("8209ba1ae4288012a492a492a2808124c924c924a8009249924992458002a492a492")

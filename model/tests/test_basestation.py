@@ -29,7 +29,8 @@ class Fields(unittest.TestCase):
         self.assertEqual(found([0] * 18, 8), [1, 0, 0, 0, 0, 0, 0, 0, 1, 0, 0, 0, 0, 0, 0, 0, 1, 0])
 
     def test_a_request_that_is_met(self) -> None:
-        """Frames belong to the period of their bit 315, so one that begins at 8 is found a period later."""
+        """Frames belong to the period of their bit 315, so one that begins at 8 is found a period
+        later."""
         self.assertEqual(found([0, 0, 8, 8, 8], 8), [1, 0, 0, 0, 0])
         self.assertEqual(found([0, 0, 8, 8, 8, 8], 16), [2, 0, 0, 1, 0, 0])
 

@@ -120,7 +120,8 @@ class Bridges(unittest.TestCase):
     """Two calls, bridged."""
 
     def pair(self, start: int, end: int) -> Tuple[OutgoingLines, OutgoingLines, Uplink]:
-        """Calls 7 and 9 of twelve periods, bridged; the frame of period 3 of call 9 asks for a shift of 156."""
+        """Calls 7 and 9 of twelve periods, bridged; the frame of period 3 of call 9 asks for a
+        shift of 156."""
         ups = [
             line([speech(with_maxima(k)) for k in range(12)]),
             UP * 3 + line([speech(field=39)]) + UP * 8,

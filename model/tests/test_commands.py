@@ -1,4 +1,5 @@
-"""Tests of the commands on one call: texts, statuses, and what lines hold, with faults and without."""
+"""Tests of the commands on one call: texts, statuses, and what lines hold, with faults and
+without."""
 
 import unittest
 from typing import Dict, Optional, Tuple
@@ -16,14 +17,16 @@ Contents = Dict[Tuple[int, str], bytes]
 def run(
     words: str, contents: Contents, room: Optional[int] = None, **faults: object
 ) -> Tuple[Optional[int], str, Contents]:
-    """The status, the text and the lines written; `room` is that of standard output, `faults` go to the lines."""
+    """The status, the text and the lines written; `room` is that of standard output, `faults` go to
+    the lines."""
     lines, desk = MemoryLines(contents, **faults), MemoryDesk(room=room)  # type: ignore
     status = command(words.split(), lines, desk)
     return status, desk.text, lines.written
 
 
 def encoded_idle(frames: int) -> bytes:
-    """The downlink frames of so many frames of an idle line of A-law, from home; its samples are 8."""
+    """The downlink frames of so many frames of an idle line of A-law, from home; its samples are
+    8."""
     encoder = FullRateEncoder()
     coded = [encoder.encode([8] * 160).parameters for _ in range(frames)]
     return b"".join(

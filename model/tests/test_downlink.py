@@ -44,7 +44,8 @@ class Frames(unittest.TestCase):
         )
 
     def test_two_frames_in_a_period(self) -> None:
-        """An advance after a delay of as many octets: the second frame of the period finds nothing that was asked."""
+        """An advance after a delay of as many octets: the second frame of the period finds nothing
+        that was asked."""
         made = made_frames(6, {0: 2, 2: -2}, [])
         self.assertEqual([one.period for one in made], [0, 2, 2, 3, 4, 5])
         self.assertEqual([one.shift for one in made], [2, -2, 0, 0, 0, 0])
@@ -62,7 +63,8 @@ class Frames(unittest.TestCase):
         self.assertEqual([one.shift for one in made], [0, 0, 0, 0, 0, 0, 156, 0])
 
     def test_a_frame_that_waits(self) -> None:
-        """Octets were to be lost when the bridge began: its last frame goes out in the period of its end, before the kept shift."""
+        """Octets were to be lost when the bridge began: its last frame goes out in the period of
+        its end, before the kept shift."""
         made = made_frames(14, {3: 156, 5: 4}, [(4, 10)])
         self.assertEqual([one.period for one in made], [0, 1, 2, 3, 5, 6, 7, 8, 9, 10, 11, 12, 13])
         self.assertEqual([one.item for one in made[4:10]], [Item(0, number) for number in range(6)])

@@ -119,7 +119,8 @@ class Runs(unittest.TestCase):
         self.assertEqual(late[1][-1], "end period 4000000000 calls 1 left 0")
 
     def test_a_bridge_hands_frames_over(self) -> None:
-        """Call 9 asks for a shift of 156 octets in period 3, so the first frame in the bridge is made in its period 5."""
+        """Call 9 asks for a shift of 156 octets in period 3, so the first frame in the bridge is
+        made in its period 5."""
         frames = [speech(with_maxima(k)) for k in range(12)]
         asked = [speech(field=39 if k == 3 else 0) for k in range(12)]
         contents = {
@@ -133,9 +134,8 @@ class Runs(unittest.TestCase):
         self.assertIn("bridge 7 9 from 4 to 10 sent 6 6 lost 0 0", report)
         down = written[9, "down"]
         for place in range(4, 10):
-            start = (
-                40 + 40 * place + 39
-            )  # behind the ones at the line's start and those of the shift
+            # behind the ones at the line's start and those of the shift
+            start = 40 + 40 * place + 39
             self.assertEqual(down[start + 4 : start + 38], line([frames[place]])[4:38], place)
         self.assertIn(
             "bridge 7 9 from 4 to 10 sent 5 6 lost 1 0", run(orders + "; 10 close 9", contents)[1]

@@ -15,9 +15,8 @@ class Beside(unittest.TestCase):
     def test_streams(self) -> None:
         assert LIBRARY is not None
         found = table(LIBRARY, 54, 12)
-        found.pop(
-            "encoding steady squares"
-        )  # a library that sums in floating point departs on some
+        # a library that sums in floating point departs on some
+        found.pop("encoding steady squares")
         self.assertEqual(found.pop("decoding any"), Compared(150, 0))
         self.assertEqual(found.pop("decoding extreme"), Compared(150, 0))
         self.assertEqual(found, {kind: Compared(50, 0) for kind in found})

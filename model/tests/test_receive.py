@@ -14,7 +14,8 @@ INVALID = speech(kind=FrameKind.INVALID_SID, taf=True)
 
 
 def maxima_of(frames: Sequence[Optional[UpFrame]]) -> List[Optional[int]]:
-    """The coded maximum of each effective frame of call 7, the same in all its blocks; None where it is quiet."""
+    """The coded maximum of each effective frame of call 7, the same in all its blocks; None where
+    it is quiet."""
     by_block = [maxima(one) for one in effective_frames(7, frames)]
     assert all(one is None or len(set(one)) == 1 for one in by_block)
     return [one[0] if one else None for one in by_block]

@@ -1,4 +1,5 @@
-"""Tests of what `model/remake` compares: the farm of examples and the picture that is drawn of it."""
+"""Tests of what `model/remake` compares: the farm of examples and the picture that is drawn of
+it."""
 
 import unittest
 

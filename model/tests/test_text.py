@@ -1,4 +1,5 @@
-"""Tests of the text of the model and of the package that it shares with the tools: each function says what it is, and by which document. (Its types: checks/python.sh.)"""
+"""Tests of the text of the model and of the package that it shares with the tools: each function
+says what it is, and by which document. (Its types: checks/python.sh.)"""
 
 import ast
 import re
@@ -13,7 +14,8 @@ CITED = re.compile(r'(docs/[A-Za-z/]+\.md)((?:,? (?:and )?"[^"]+")*)')
 
 
 def functions(tree: ast.Module) -> Iterator[Function]:
-    """The functions of a module and the methods of its classes; those within functions aren't among them."""
+    """The functions of a module and the methods of its classes; those within functions aren't among
+    them."""
     for node in tree.body:
         members = node.body if isinstance(node, ast.ClassDef) else [node]
         yield from (

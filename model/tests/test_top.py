@@ -25,7 +25,8 @@ ZEROS = {(1, "up"): bytes(160), (1, "pcm"): PCM * 4}
 def run(
     words: str, stdin: bytes = b"", fails: bool = False, room: Optional[int] = None
 ) -> Tuple[int, str, Dict[Tuple[int, str], bytes]]:
-    """The status, the text and the lines written of a command over four periods of zeros on call 1."""
+    """The status, the text and the lines written of a command over four periods of zeros on call
+    1."""
     lines, desk = MemoryLines(ZEROS), MemoryDesk(stdin, fails, room)
     return top(words.split(), lines, desk), desk.text, lines.written
 
@@ -188,7 +189,8 @@ class Tools(unittest.TestCase):
             self.assertEqual(draw_trial(seed), draw_trial(seed))
 
     def test_differences_are_found(self) -> None:
-        """A program that answers the model's text and status, and leaves each line as it was, differs in these alone."""
+        """A program that answers the model's text and status, and leaves each line as it was,
+        differs in these alone."""
         with tempfile.TemporaryDirectory() as folder:
             other = Path(folder, "other")
             other.write_text("#!/bin/sh\necho 'relay frames 2'\n")

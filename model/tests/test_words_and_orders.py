@@ -5,7 +5,7 @@ import unittest
 from material import TOP  # noqa: F401  (puts the top of the repository on the path)
 from trau.rules import profile
 from trau.rules.orders import BadLine, TooLong, lines_of, orders_of, read_order
-from trau.command_line.words import number
+from trau.rules.numbers import number
 from trau.model.words import Asked, asked
 
 

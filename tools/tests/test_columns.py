@@ -103,7 +103,7 @@ def sent_one_by_one(octet, handed, bits):
         return DownlinkKind.OTHER
     if handed:
         return DownlinkKind.HANDED
-    return DownlinkKind.SPEECH if control[15] == "1" else DownlinkKind.SILENCE
+    return DownlinkKind.SPEECH if control[15] == "1" else DownlinkKind.VALID_SID
 
 
 class Uplinks(unittest.TestCase):

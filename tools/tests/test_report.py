@@ -237,7 +237,7 @@ class Calls(Told):
                 speech = sum(frame[17:22] == DOWN_SPEECH for frame in found)
                 whole = (
                     kinds[DownlinkKind.SPEECH]
-                    + kinds[DownlinkKind.SILENCE]
+                    + kinds[DownlinkKind.VALID_SID]
                     + kinds[DownlinkKind.HANDED]
                 )
                 self.assertIn(speech - whole, (0, 1))

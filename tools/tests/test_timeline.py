@@ -127,8 +127,7 @@ class Parts(unittest.TestCase):
             len(meanings), len({look.words for look in (*looks.UplinkLook, *looks.DownlinkLook)})
         )
         self.assertFalse(
-            set(meanings)
-            & {rows.OUT_COLOUR, rows.PCM_COLOUR, rows.BRIDGE_COLOUR, svg.ALARM}
+            set(meanings) & {rows.OUT_COLOUR, rows.PCM_COLOUR, rows.BRIDGE_COLOUR, svg.ALARM}
         )
 
     def test_partners_are_neighbours(self):

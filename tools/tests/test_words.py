@@ -52,10 +52,7 @@ class Documents(unittest.TestCase):
                 )
             }
             wanted = {
-                option.name: [
-                    grouped(number) for number in (option.least, option.most, option.default)
-                ]
-                for option in options
+                option.name: [grouped(number) for number in option.values[:3]] for option in options
             }
             self.assertEqual(found, wanted, command)
 

@@ -1,7 +1,9 @@
-"""How every tool ends: with its own status, or with one line on standard error and a status that means nothing else.
+"""How every tool ends: with its own status, or with one line on standard error and a status that
+means nothing else.
 
-Status 2: the tool refused its input, a file or standard output failed, or memory ran out. Status 130: it was interrupted. In these cases no
-tool of this folder ends with a traceback. Status 70: an exception that nobody foresaw, which is a fault of the tool; its traceback says where.
+Status 2: the tool refused its input, a file or standard output failed, or memory ran out. Status
+130: it was interrupted. In these cases no tool of this folder ends with a traceback. Status 70: an
+exception that nobody foresaw, which is a fault of the tool; its traceback says where.
 """
 
 import contextlib
@@ -26,7 +28,8 @@ Main = Callable[[Sequence[str]], int]
 
 @contextlib.contextmanager
 def naming(path: Path) -> Iterator[None]:
-    """Gives what fails in here the name of this file, which the system leaves out where a disk is full."""
+    """Gives what fails in here the name of this file, which the system leaves out where a disk is
+    full."""
     try:
         yield
     except OSError as failure:
@@ -48,13 +51,15 @@ def complain(name: str, what: str) -> None:
 
 
 def reason_of(failure: OSError) -> str:
-    """What failed, and why. The tools name each file that they write; a failure without a name is one of standard output."""
+    """What failed, and why. The tools name each file that they write; a failure without a name is
+    one of standard output."""
     name = "standard output" if failure.filename is None else os.fsdecode(failure.filename)
     return f"{name}: {failure.strerror or failure}"
 
 
 def drop_output() -> None:
-    """Sends what is left of standard output nowhere. The interpreter would try to write it again, and end with a status of its own."""
+    """Sends what is left of standard output nowhere. The interpreter would try to write it again,
+    and end with a status of its own."""
     try:
         os.dup2(os.open(os.devnull, os.O_WRONLY), sys.stdout.fileno())
     except (OSError, ValueError):
@@ -62,7 +67,8 @@ def drop_output() -> None:
 
 
 def ready_streams() -> None:
-    """Makes the standard streams fit to print to: names of files that aren't text are escaped, and a closed standard error takes all."""
+    """Makes the standard streams fit to print to: names of files that aren't text are escaped, and
+    a closed standard error takes all."""
     if sys.stderr is None:
         sys.stderr = open(os.devnull, "w", encoding="utf-8")
     if hasattr(sys.stdout, "reconfigure"):
@@ -70,11 +76,12 @@ def ready_streams() -> None:
 
 
 def status_of(name: str, main: Main, words: Sequence[str]) -> int:
-    """The exit status of a tool's main function; it prints what stopped it in one line, or the traceback of what nobody foresaw."""
+    """The exit status of a tool's main function; it prints what stopped it in one line, or the
+    traceback of what nobody foresaw."""
     try:
         return main(words)
     except SystemExit as end:  # of argparse, which has printed its own line
-        return end.code
+        return int(end.code or 0)
     except Refusal as refusal:
         complain(name, str(refusal))
     except OSError as failure:
@@ -91,8 +98,8 @@ def status_of(name: str, main: Main, words: Sequence[str]) -> int:
 
 
 def tool(name: str, prints: bool = True) -> Callable[[Main], Main]:
-    """Decorates the main function of the tool with this name, so that it ends as this module says. A tool that prints does nothing
-    where standard output is closed."""
+    """Decorates the main function of the tool with this name, so that it ends as this module says.
+    A tool that prints does nothing where standard output is closed."""
 
     def decorated(main: Main) -> Main:
         @functools.wraps(main)

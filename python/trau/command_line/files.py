@@ -1,4 +1,5 @@
-"""Files as the tools read and write them: a file is written as a whole or not at all, and never over one that was read."""
+"""Files as the tools read and write them: a file is written as a whole or not at all, and never
+over one that was read."""
 
 import contextlib
 import os
@@ -18,10 +19,11 @@ def opened(path: Path) -> Iterator[BinaryIO]:
     if path == STREAM and sys.stdin is None:
         raise Refusal("standard input is closed")
     try:
-        with contextlib.nullcontext(sys.stdin.buffer) if path == STREAM else open(
-            path, "rb"
-        ) as file:
-            yield file
+        if path == STREAM:
+            yield sys.stdin.buffer
+        else:
+            with open(path, "rb") as file:
+                yield file
     except OSError as failure:
         raise Refusal(f"{path}: {failure.strerror}") from None
 
@@ -40,7 +42,8 @@ def read_part(path: Path, start: int, octets: int) -> bytes:
 
 
 def write_file(path: Path, content: bytes, inputs: Iterable[Path]) -> None:
-    """Writes a file as a whole or not at all, and never over one of the inputs; or writes to standard output."""
+    """Writes a file as a whole or not at all, and never over one of the inputs; or writes to
+    standard output."""
     if path == STREAM:
         sys.stdout.buffer.write(content)
         sys.stdout.buffer.flush()

@@ -1,4 +1,5 @@
-"""Pieces of work side by side, in as many processes as there are processors, with the progress on standard error."""
+"""Pieces of work side by side, in as many processes as there are processors, with the progress on
+standard error."""
 
 import os
 import signal
@@ -29,7 +30,8 @@ def number_in(path: str, place: int = 0) -> Optional[int]:
 
 
 def processors() -> int:
-    """How many processors may be used: those of this process, or fewer by the quota of its group."""
+    """How many processors may be used: those of this process, or fewer by the quota of its
+    group."""
     found = (
         len(os.sched_getaffinity(0)) if hasattr(os, "sched_getaffinity") else os.cpu_count() or 1
     )
@@ -38,8 +40,9 @@ def processors() -> int:
 
 
 def with_progress(what: str, results: Iterator[Result], pieces: int) -> Iterator[Result]:
-    """The results of so many pieces of work, and how many there are so far on standard error: at a terminal in one line, which it clears, else
-    in a line now and then. It shows nothing in the first seconds."""
+    """The results of so many pieces of work, and how many there are so far on standard error: at a
+    terminal in one line, which it clears, else in a line now and then. It shows nothing in the
+    first seconds."""
     terminal, shown = sys.stderr.isatty(), False
     due = time.monotonic() + QUIET_SECONDS
     try:
@@ -62,9 +65,12 @@ def with_progress(what: str, results: Iterator[Result], pieces: int) -> Iterator
 def by_processes(
     processes: int, function: Callable[..., Result], pieces: Sequence[Tuple[Any, ...]]
 ) -> Iterator[Result]:
-    """The function's results for the pieces of work, in order, by this many processes, which leave interrupts to this one."""
-    ignoring = {"initializer": signal.signal, "initargs": (signal.SIGINT, signal.SIG_IGN)}
-    with ProcessPoolExecutor(min(processes, len(pieces)), **ignoring) as pool:
+    """The function's results for the pieces of work, in order, by this many processes, which leave
+    interrupts to this one."""
+    ignored = (signal.SIGINT, signal.SIG_IGN)
+    with ProcessPoolExecutor(
+        min(processes, len(pieces)), initializer=signal.signal, initargs=ignored
+    ) as pool:
         try:
             yield from pool.map(function, *zip(*pieces))
         except BrokenProcessPool:
@@ -78,8 +84,9 @@ def results_of(
     pieces: Sequence[Tuple[Any, ...]],
     octets: int,
 ) -> Iterator[Result]:
-    """The function's results for pieces of work, each the arguments of a call of it, in order, by this many processes. `octets` is what they
-    read together. An exception of one of them is raised."""
+    """The function's results for pieces of work, each the arguments of a call of it, in order, by
+    this many processes. `octets` is what they read together. An exception of one of them is
+    raised."""
     small = octets < LEAST_OCTETS
     alone = processes == 1 or len(pieces) < 2 or small
     results = (

@@ -1,4 +1,5 @@
-"""What is wrong with the words of a line of text: its octets and spaces, and its numbers. Orders and marks are read with it."""
+"""What is wrong with the words of a line of text: its octets and spaces, and its numbers. Orders
+and marks are read with it."""
 
 import re
 from typing import List, Optional, Tuple
@@ -15,7 +16,8 @@ MOST_SHOWN = 40
 
 
 def shown(word: str) -> str:
-    """A word of octets as it is printed: text of UTF-8 as such, all else that doesn't print escaped, and of a long word the beginning."""
+    """A word of octets as it is printed: text of UTF-8 as such, all else that doesn't print
+    escaped, and of a long word the beginning."""
     text = word.encode("latin-1").decode("utf-8", "backslashreplace")
     text = "".join(
         letter if letter.isprintable() else letter.encode("unicode_escape").decode()

@@ -6,7 +6,9 @@ import argparse
 import re
 import sys
 from pathlib import Path
-from typing import Any, Callable, NoReturn, Optional, TextIO
+from typing import IO, Any, Callable, NoReturn, Optional
+
+from trau.rules.numbers import number
 
 
 class Refusal(Exception):
@@ -21,18 +23,10 @@ INSTALLED = "trau-"
 
 
 def as_started(text: str) -> str:
-    """A text with the names that tools have where they are installed, as `trau-lines` for lines.py, if this one was started by such a
-    name. Else the text as it is."""
+    """A text with the names that tools have where they are installed, as `trau-lines` for lines.py,
+    if this one was started by such a name. Else the text as it is."""
     is_installed = Path(sys.argv[0]).name.startswith(INSTALLED)
     return TOOL_IN_TEXT.sub(rf"{INSTALLED}\1", text) if is_installed else text
-
-
-def number(text: str, least: int, most: int) -> Optional[int]:
-    """The number that a word spells: decimal digits without sign and without leading zeros (this project's profile).
-
-    None where the word is none, or its number isn't `least` to `most`."""
-    is_number = re.fullmatch("0|[1-9][0-9]*", text) and len(text) <= len(str(most))
-    return int(text) if is_number and least <= int(text) <= most else None
 
 
 def number_within(least: int, most: int) -> Callable[[str], int]:
@@ -47,9 +41,8 @@ def number_within(least: int, most: int) -> Callable[[str], int]:
     return read
 
 
-Option = Callable[
-    [argparse._ActionsContainer], Any
-]  # adds an option or an argument to the words of a command
+# adds an option or an argument to the words of a command
+Option = Callable[[argparse._ActionsContainer], Any]
 
 
 def option(*names: str, **more: Any) -> Option:
@@ -74,7 +67,8 @@ def one_of(*options: Option) -> Option:
 
 
 class Words(argparse.ArgumentParser):
-    """The words of a command line, whose names aren't shortened; bad ones get one line on standard error and status 2."""
+    """The words of a command line, whose names aren't shortened; bad ones get one line on standard
+    error and status 2."""
 
     def __init__(self, description: Optional[str] = None, *options: Option, **more: Any) -> None:
         more.setdefault("formatter_class", argparse.RawDescriptionHelpFormatter)
@@ -83,7 +77,8 @@ class Words(argparse.ArgumentParser):
             each(self)
 
     def commands(self) -> Callable[..., Words]:
-        """What adds a command: of its function, which has its name, one line for the list of commands, its text, and its options."""
+        """What adds a command: of its function, which has its name, one line for the list of
+        commands, its text, and its options."""
         commands = self.add_subparsers(metavar="COMMAND", required=True)
 
         def add(
@@ -105,7 +100,7 @@ class Words(argparse.ArgumentParser):
 
         return add
 
-    def print_help(self, file: Optional[TextIO] = None) -> None:
+    def print_help(self, file: Optional[IO[str]] = None) -> None:
         """Prints the help; argparse's own function does as if that never failed."""
         print(as_started(self.format_help()), end="", file=file)
 

@@ -18,7 +18,8 @@ from typing import List, Optional
 
 from trau.rules.lines import INCOMING, OCTETS_OF_SIDE, OUTGOING, SIDES, whole_periods
 from trau.rules.orders import Order
-from trau.command_line.words import Refusal, number
+from trau.command_line.words import Refusal
+from trau.rules.numbers import number
 from trau.recordings import listening
 from trau.gateway.recorder import CLOCK
 from trau.runs.run_texts import read_orders, report_of

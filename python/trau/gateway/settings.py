@@ -8,7 +8,7 @@ from typing import Callable, Dict, List, Optional, Tuple
 
 from trau.rules.profile import FIRST_LEVEL, MOST_CALLS, MOST_LEVEL
 from trau.command_line.words import Refusal
-from trau.command_line.words import number as number_of
+from trau.rules.numbers import number as number_of
 
 MOST_DEPTH = 25  # periods
 BROADCAST = ipaddress.IPv4Address("255.255.255.255")

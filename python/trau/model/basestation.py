@@ -1,6 +1,8 @@
-"""The base station's end of a recorded downlink: the frames that it finds, and what it sends up (docs/commands/follow.md).
+"""The base station's end of a recorded downlink: the frames that it finds, and what it sends up
+(docs/commands/follow.md).
 
-Places are counted in bits from the start of the line. What is asked for, and how long a request waits, are this project's profile.
+Places are counted in bits from the start of the line. What is asked for, and how long a request
+waits, are this project's profile.
 """
 
 from typing import List, NamedTuple, Sequence
@@ -18,7 +20,8 @@ class HeardFrame(NamedTuple):
 
 
 def heard_frames(octets: bytes) -> List[HeardFrame]:
-    """The frames of a downlink: each at the first place that matches, 316 bits or more behind the one before (docs/commands/follow.md)."""
+    """The frames of a downlink: each at the first place that matches, 316 bits or more behind the
+    one before (docs/commands/follow.md)."""
     return [
         HeardFrame(found.start(), read_down(found.group()))
         for found in FRAME_OF_DOWNLINK.finditer(bits_of(octets))
@@ -26,7 +29,8 @@ def heard_frames(octets: bytes) -> List[HeardFrame]:
 
 
 def heard_by_period(octets: bytes) -> List[List[HeardFrame]]:
-    """For each whole period of the line the frames whose bit 315 it holds: two at most (docs/commands/follow.md)."""
+    """For each whole period of the line the frames whose bit 315 it holds: two at most
+    (docs/commands/follow.md)."""
     periods = len(octets) // profile.FRAME_OCTETS
     by_period: List[List[HeardFrame]] = [[] for _ in range(periods)]
     for one in heard_frames(octets[: profile.FRAME_OCTETS * periods]):
@@ -35,7 +39,8 @@ def heard_by_period(octets: bytes) -> List[List[HeardFrame]]:
 
 
 def field_for(wanted: int, place: int) -> int:
-    """The alignment field that asks for the wanted place, where the last frame is at this one (docs/commands/follow.md, 1)."""
+    """The alignment field that asks for the wanted place, where the last frame is at this one
+    (docs/commands/follow.md, 1)."""
     offset = (wanted - place) % profile.FRAME_BITS
     if offset == 2 * profile.SMALL_DELAY_OCTETS:
         return profile.SMALL_DELAY_FIELD
@@ -43,7 +48,8 @@ def field_for(wanted: int, place: int) -> int:
 
 
 def end_of_wait(by_period: Sequence[Sequence[HeardFrame]], request: int) -> int:
-    """The period in which a request of this period waits no more, or the number of periods (docs/commands/follow.md, 2)."""
+    """The period in which a request of this period waits no more, or the number of periods
+    (docs/commands/follow.md, 2)."""
     last = by_period[request][-1].place
     frames = 0
     for period in range(request + 1, len(by_period)):

@@ -1,8 +1,10 @@
-"""A whole call: what goes out on its Out and Down lines of what came in, of its settings and its bridges.
+"""A whole call: what goes out on its Out and Down lines of what came in, of its settings and its
+bridges.
 
-Periods are counted from the call's opening. A call has two halves. The uplink half is made of the call's number and its Up line alone;
-the downlink half needs it, the Pcm line, and what the partners of bridges hand over. So no call has to wait for another: first all
-uplink halves, then all downlink halves.
+Periods are counted from the call's opening. A call has two halves. The uplink half is made of the
+call's number and its Up line alone; the downlink half needs it, the Pcm line, and what the partners
+of bridges hand over. So no call has to wait for another: first all uplink halves, then all downlink
+halves.
 """
 
 from bisect import bisect_right
@@ -26,13 +28,14 @@ from trau.rules.parameters import SILENCE, bits_of_parameters
 from trau.rules.search import kind_of_period, yields_by_period
 
 from trau.model.codec import FullRateDecoder, FullRateEncoder
-from trau.model.downlink import MadeFrame, asked_shifts, down_bits, made_frames
+from trau.model.downlink import Extent, MadeFrame, asked_shifts, down_bits, made_frames
 from trau.model.receive import Effective, effective_frames
 from trau.model.transmit import Coded, Dtx, sent_frames
 
 
 class Setting(NamedTuple):
-    """An accepted order on the level or on DTX (docs/OPERATORS.md, "Orders"); what is None stays as it was."""
+    """An accepted order on the level or on DTX (docs/OPERATORS.md, "Orders"); what is None stays as
+    it was."""
 
     period: int  # it holds for frames that are made from this period on
     level: Optional[int] = None
@@ -80,14 +83,16 @@ class OutgoingLines(NamedTuple):
 
 
 def uplink(number: int, up: bytes) -> Uplink:
-    """The frames and the effective frames of the whole periods of an Up line (docs/commands/frames.md, docs/PROFILE.md)."""
+    """The frames and the effective frames of the whole periods of an Up line
+    (docs/commands/frames.md, docs/PROFILE.md)."""
     yields = yields_by_period(bits_of(up))
     frames = [read_up(one.frame) if one and one.frame else None for one in yields]
     return Uplink(list(map(kind_of_period, yields)), frames, effective_frames(number, frames))
 
 
 def handed(up: Uplink, start: int, end: int) -> List[Bits]:
-    """What a call hands to its partner in the periods from `start` up to `end` (docs/OPERATORS.md, "Bridges")."""
+    """What a call hands to its partner in the periods from `start` up to `end` (docs/OPERATORS.md,
+    "Bridges")."""
     return [bits_of_parameters(parameters or SILENCE) for parameters in up.effective[start:end]]
 
 
@@ -102,8 +107,9 @@ def in_bridge(call: Call) -> List[bool]:
     return covered
 
 
-def runs(wanted: Sequence[bool], breaks: Sequence[bool]) -> List[Tuple[int, int]]:
-    """The longest parts, first and end, of which all is wanted and no member but the first is a break."""
+def runs(wanted: Sequence[bool], breaks: Sequence[bool]) -> List[Extent]:
+    """The longest parts of which all is wanted and no member but the first is a
+    break."""
     firsts = [
         k for k, one in enumerate(wanted) if one and (k == 0 or not wanted[k - 1] or breaks[k])
     ]
@@ -112,13 +118,15 @@ def runs(wanted: Sequence[bool], breaks: Sequence[bool]) -> List[Tuple[int, int]
         for k, one in enumerate(wanted)
         if one and (k + 1 == len(wanted) or not wanted[k + 1] or breaks[k + 1])
     ]
-    return list(zip(firsts, ends))
+    return list(map(Extent, firsts, ends))
 
 
 def out_line(call: Call) -> bytes:
-    """The Out line: the decoded effective frames, and idle octets in bridges and where the call is quiet (docs/PROFILE.md, "The Out line").
+    """The Out line: the decoded effective frames, and idle octets in bridges and where the call is
+    quiet (docs/PROFILE.md, "The Out line").
 
-    The decoder begins at home after each idle period and at each start of a bridge, also of one without a period.
+    The decoder begins at home after each idle period and at each start of a bridge, also of one
+    without a period.
     """
     starts = {span.start for span in call.spans}
     plain = [
@@ -139,7 +147,8 @@ def out_line(call: Call) -> bytes:
 
 
 def in_force(call: Call) -> List[Tuple[int, Dtx]]:
-    """The level and the mode of DTX of each period (docs/OPERATORS.md, "Levels and discontinuous transmission")."""
+    """The level and the mode of DTX of each period (docs/OPERATORS.md, "Levels and discontinuous
+    transmission")."""
     levels: List[Optional[int]] = [None] * call.periods
     modes: List[Optional[Dtx]] = [None] * call.periods
     for setting in call.settings:
@@ -156,7 +165,8 @@ def in_force(call: Call) -> List[Tuple[int, Dtx]]:
 
 
 def asked_dtx(call: Call) -> List[bool]:
-    """For each period whether the last uplink speech frame so far had DTXd 1 (docs/OPERATORS.md, "Orders")."""
+    """For each period whether the last uplink speech frame so far had DTXd 1 (docs/OPERATORS.md,
+    "Orders")."""
     said = [
         frame.dtxd if frame is not None and frame.is_speech() else None
         for frame in call.up.frames[: call.periods]
@@ -165,7 +175,8 @@ def asked_dtx(call: Call) -> List[bool]:
 
 
 def coded_frames(call: Call, made: Sequence[MadeFrame]) -> List[Coded]:
-    """The frames of the encoder, from home, that are made in a row (docs/PROFILE.md, "The downlink")."""
+    """The frames of the encoder, from home, that are made in a row (docs/PROFILE.md, "The
+    downlink")."""
     settings, asked = in_force(call), asked_dtx(call)
     encoder = FullRateEncoder()
 
@@ -198,7 +209,8 @@ def down_frames(call: Call, made: Sequence[MadeFrame]) -> List[DownFrame]:
 
 
 def breaks_of_coding(call: Call, made: Sequence[MadeFrame]) -> List[bool]:
-    """For each frame whether a bridge started after the period of the frame before and not after its own (docs/PROFILE.md)."""
+    """For each frame whether a bridge started after the period of the frame before and not after
+    its own (docs/PROFILE.md)."""
     starts = [span.start for span in call.spans]
     begun = [bisect_right(starts, frame.period) for frame in made]
     return [now > before for now, before in zip(begun, begun[:1] + begun[:-1])]
@@ -208,12 +220,12 @@ def breaks_of_coding(call: Call, made: Sequence[MadeFrame]) -> List[bool]:
 
 
 def outgoing(call: Call) -> OutgoingLines:
-    """The Out and Down lines of a call, its report's counts, and how many handed frames went out of each bridge (docs/OPERATORS.md, "The report,
-    line by line")."""
+    """The Out and Down lines of a call, its report's counts, and how many handed frames went out of
+    each bridge (docs/OPERATORS.md, "The report, line by line")."""
     made = made_frames(
         call.periods,
         asked_shifts(call.up.frames[: call.periods]),
-        [(span.start, span.end) for span in call.spans],
+        [Extent(span.start, span.end) for span in call.spans],
     )
     bits = [write_down(frame) for frame in down_frames(call, made)]
     carried = [frame.item.span for frame in made if frame.item is not None]

@@ -1,4 +1,5 @@
-"""A run in two parts: the mark that `save` prints and `resume` reads (docs/FILES.md, "A mark"; this project's profile)."""
+"""A run in two parts: the mark that `save` prints and `resume` reads (docs/FILES.md, "A mark"; this
+project's profile)."""
 
 import re
 from typing import List, NamedTuple, Optional, Sequence, Tuple
@@ -6,13 +7,14 @@ from typing import List, NamedTuple, Optional, Sequence, Tuple
 from trau.rules import profile
 from trau.rules.orders import BadLine
 from trau.rules.report import text_of
-from trau.command_line.words import number
+from trau.rules.numbers import number
 
 from trau.model.farm import Cause, Farm
 
 
 class MarkCall(NamedTuple):
-    """A call that is open at a mark: its number, its opening, and the sums of all octets of its Out and Down lines so far."""
+    """A call that is open at a mark: its number, its opening, and the sums of all octets of its Out
+    and Down lines so far."""
 
     call: int
     opening: int
@@ -33,8 +35,8 @@ def sum_of(octets: bytes) -> int:
 
 
 def mark_of(farm: Farm, period: int) -> Mark:
-    """The mark of a run that ended at this period: the calls that this end met, with the sums of their lines (docs/FILES.md, "A
-    mark")."""
+    """The mark of a run that ended at this period: the calls that this end met, with the sums of
+    their lines (docs/FILES.md, "A mark")."""
     at_limit = [call for call in farm.calls if call.end.cause is Cause.LIMIT]
     return Mark(
         period,
@@ -48,7 +50,8 @@ def mark_of(farm: Farm, period: int) -> Mark:
 
 
 def text_of_mark(mark: Mark) -> str:
-    """The text of a mark; the orders of the whole run follow it where it is read (docs/FILES.md, "A mark")."""
+    """The text of a mark; the orders of the whole run follow it where it is read (docs/FILES.md, "A
+    mark")."""
     calls = [
         f"call {call.call} from {call.opening} out {call.out} down {call.down}"
         for call in mark.calls
@@ -57,16 +60,18 @@ def text_of_mark(mark: Mark) -> str:
 
 
 def differs(mark: Mark, other: Mark) -> Optional[int]:
-    """The least number of a call that has another entry in the other mark, or that only one of both has; None where none has
-    (docs/COMMANDS.md, "Statuses")."""
+    """The least number of a call that has another entry in the other mark, or that only one of both
+    has; None where none has (docs/COMMANDS.md, "Statuses")."""
     different = set(mark.calls) ^ set(other.calls)
     return min((call.call for call in different), default=None)
 
 
 def read_mark(text: bytes) -> Tuple[Mark, bytes]:
-    """The mark at the beginning of a text, and what follows it; else raises the first line that isn't in the grammar (docs/FILES.md, "A mark").
+    """The mark at the beginning of a text, and what follows it; else raises the first line that
+    isn't in the grammar (docs/FILES.md, "A mark").
 
-    A line without its line feed isn't in the grammar. Where the text ends before the line `orders`, the line after its last is bad.
+    A line without its line feed isn't in the grammar. Where the text ends before the line `orders`,
+    the line after its last is bad.
     """
     *lines, _ = text.split(b"\n")
     period = _period_of(lines[0]) if lines else None
@@ -90,13 +95,18 @@ def _period_of(line: bytes) -> Optional[int]:
 
 
 def _call_of(line: bytes, period: int, above: int) -> Optional[MarkCall]:
-    """A mark's line of a call, or None: its number is above the one before, its opening before the mark's period (docs/FILES.md, "A
-    mark")."""
+    """A mark's line of a call, or None: its number is above the one before, its opening before the
+    mark's period (docs/FILES.md, "A mark")."""
     words = re.fullmatch(
         "call ([0-9]+) from ([0-9]+) out ([0-9]+) down ([0-9]+)", line.decode("latin-1")
     )
     if not words:
         return None
-    call, opening = number(words[1], above + 1, profile.MOST_CALLS), number(words[2], 0, period - 1)
-    out, down = (number(words[place], 0, profile.SUM_MODULUS - 1) for place in (3, 4))
-    return None if None in (call, opening, out, down) else MarkCall(call, opening, out, down)
+    numbers = (
+        number(words[1], above + 1, profile.MOST_CALLS),
+        number(words[2], 0, period - 1),
+        number(words[3], 0, profile.SUM_MODULUS - 1),
+        number(words[4], 0, profile.SUM_MODULUS - 1),
+    )
+    found = [each for each in numbers if each is not None]
+    return MarkCall(*found) if len(found) == len(numbers) else None

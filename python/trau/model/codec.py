@@ -1,8 +1,10 @@
-"""The full rate speech codec of GSM 06.10, bit for bit: frames of 160 samples to parameters and back.
+"""The full rate speech codec of GSM 06.10, bit for bit: frames of 160 samples to parameters and
+back.
 
-Each function is a numbered section of the standard's fixed point description (GSM 06.10 section 4), over whole lists: a frame of
-160 samples, or one of its four blocks of 40. `Encoder` and `Decoder` keep what one frame hands to the next. Samples are words of
-16 bits, the 13 bits of a sample at their upper end.
+Each function is a numbered section of the standard's fixed point description (GSM 06.10 section 4),
+over whole lists: a frame of 160 samples, or one of its four blocks of 40. `Encoder` and `Decoder`
+keep what one frame hands to the next. Samples are words of 16 bits, the 13 bits of a sample at
+their upper end.
 """
 
 from operator import mul
@@ -35,9 +37,11 @@ class Trace(NamedTuple):
 
 
 class Encoded(NamedTuple):
-    """What the encoder makes of a frame: its parameters, their measures before coding, and its peak.
+    """What the encoder makes of a frame: its parameters, their measures before coding, and its
+    peak.
 
-    The peak is the greatest magnitude of its samples after preprocessing (GSM 06.10 section 4.2.4, "smax").
+    The peak is the greatest magnitude of its samples after preprocessing (GSM 06.10 section 4.2.4,
+    "smax").
     """
 
     parameters: Parameters
@@ -65,13 +69,15 @@ FAC = (18431, 20479, 22527, 24575, 26623, 28671, 30719, 32767)
 
 
 def scaling(values: Sequence[int], room: int) -> int:
-    """By how many bits values are scaled down so that `room` bits are free above the greatest (GSM 06.10 sections 4.2.4, 4.2.11)."""
+    """By how many bits values are scaled down so that `room` bits are free above the greatest (GSM
+    06.10 sections 4.2.4, 4.2.11)."""
     greatest = max(map(magnitude, values))
     return max(0, room - norm(greatest << 16)) if greatest else 0
 
 
 def autocorrelation(emphasised: Sequence[int]) -> Tuple[List[int], List[int]]:
-    """The nine autocorrelations of a frame, and the frame as scaling there and back leaves it (GSM 06.10 section 4.2.4)."""
+    """The nine autocorrelations of a frame, and the frame as scaling there and back leaves it (GSM
+    06.10 section 4.2.4)."""
     shift = scaling(emphasised, 4)
     if shift == 0:
         scaled = kept = list(emphasised)
@@ -102,7 +108,8 @@ def reflection_coefficients(correlations: Sequence[int]) -> List[int]:
 
 
 def log_area_ratio(r: int) -> int:
-    """The log area ratio of a reflection coefficient, in three straight lines (GSM 06.10 section 4.2.6)."""
+    """The log area ratio of a reflection coefficient, in three straight lines (GSM 06.10 section
+    4.2.6)."""
     size = magnitude(r)
     ratio = size >> 1 if size < 22118 else size - 11059 if size < 31130 else (size - 26112) << 2
     return -ratio if r < 0 else ratio
@@ -131,10 +138,11 @@ def decoded_coefficient(ratio: int) -> int:
 
 
 def coefficients_by_section(before: Sequence[int], now: Sequence[int]) -> List[List[int]]:
-    """For each of the eight filter sections, the coefficient at each of a frame's 160 samples (GSM 06.10 section 4.2.9.1).
+    """For each of the eight filter sections, the coefficient at each of a frame's 160 samples (GSM
+    06.10 section 4.2.9.1).
 
-    `before` and `now` are the decoded log area ratios of the frame before and of this frame; over the first forty samples they are
-    interpolated."""
+    `before` and `now` are the decoded log area ratios of the frame before and of this frame; over
+    the first forty samples they are interpolated."""
 
     def section(old: int, new: int) -> List[int]:
         first = add(add(old >> 2, new >> 2), old >> 1)
@@ -149,10 +157,11 @@ def coefficients_by_section(before: Sequence[int], now: Sequence[int]) -> List[L
 def short_term_analysis(
     sections: Sequence[Sequence[int]], memory: Sequence[int], samples: Sequence[int]
 ) -> Tuple[List[int], List[int]]:
-    """The short term residual of a frame, and the filter's memory after it (GSM 06.10 section 4.2.10).
+    """The short term residual of a frame, and the filter's memory after it (GSM 06.10 section
+    4.2.10).
 
-    Each section takes a forward list (the residual so far) and a backward list; it sees the backward list a sample late, and its
-    memory is that list's last value of the frame before."""
+    Each section takes a forward list (the residual so far) and a backward list; it sees the
+    backward list a sample late, and its memory is that list's last value of the frame before."""
     forward = backward = list(samples)
     after = []
     for coefficients, last in zip(sections, memory):
@@ -170,8 +179,8 @@ def short_term_analysis(
 def lag_and_gain(residual: Sequence[int], past: Sequence[int]) -> Tuple[int, int]:
     """The lag and the coded gain of a block of 40 (GSM 06.10 section 4.2.11).
 
-    `past` is the last 120 values of the reconstructed residual, the oldest first. The lag is the least of those whose correlation is
-    the greatest, where that is above 0, else 40."""
+    `past` is the last 120 values of the reconstructed residual, the oldest first. The lag is the
+    least of those whose correlation is the greatest, where that is above 0, else 40."""
     shift = scaling(residual, 6)
     scaled = [value >> shift for value in residual]
     correlations = [
@@ -186,7 +195,8 @@ def lag_and_gain(residual: Sequence[int], past: Sequence[int]) -> Tuple[int, int
 
 
 def gain(correlation: int, power: int) -> int:
-    """The coded gain of a lag, of its correlation and of the power of what lies a lag before (GSM 06.10 section 4.2.11)."""
+    """The coded gain of a lag, of its correlation and of the power of what lies a lag before (GSM
+    06.10 section 4.2.11)."""
     if correlation <= 0:
         return 0
     if correlation >= power:
@@ -197,7 +207,8 @@ def gain(correlation: int, power: int) -> int:
 
 
 def predicted(lag: int, bc: int, past: Sequence[int]) -> List[int]:
-    """What the long term predictor says of a block: what lies a lag before, by its gain (GSM 06.10 sections 4.2.12, 4.3.2)."""
+    """What the long term predictor says of a block: what lies a lag before, by its gain (GSM 06.10
+    sections 4.2.12, 4.3.2)."""
     return [(QLB[bc] * value + 16384) >> 15 for value in past[MOST_LAG - lag :][:BLOCK]]
 
 
@@ -208,7 +219,8 @@ def weighted(error: Sequence[int]) -> List[int]:
 
 
 def grid(block: Sequence[int]) -> Tuple[int, List[int]]:
-    """The grid position of greatest energy, the least of equal ones, and its thirteen values (GSM 06.10 section 4.2.14)."""
+    """The grid position of greatest energy, the least of equal ones, and its thirteen values (GSM
+    06.10 section 4.2.14)."""
 
     def energy(position: int) -> int:
         return sum((value >> 2) ** 2 for value in block[position::3][:13])
@@ -250,7 +262,8 @@ def decode_pulses(xmc: Sequence[int], xmaxc: int) -> List[int]:
 
 
 def place_pulses(position: int, pulses: Sequence[int]) -> List[int]:
-    """A block of 40 with thirteen pulses, three samples apart, from the grid position on (GSM 06.10 section 4.2.17)."""
+    """A block of 40 with thirteen pulses, three samples apart, from the grid position on (GSM 06.10
+    section 4.2.17)."""
     block = [0] * BLOCK
     block[position : position + 3 * 13 : 3] = pulses
     return block
@@ -266,7 +279,8 @@ class FullRateEncoder:
         self.past: List[int] = [0] * MOST_LAG  # the reconstructed residual, the oldest first
 
     def encode(self, samples: Sequence[int]) -> Encoded:
-        """The parameters of the next frame of 160 samples, what they had before coding, and the frame's peak."""
+        """The parameters of the next frame of 160 samples, what they had before coding, and the
+        frame's peak."""
         emphasised = self.preprocessing.run(samples)
         correlations, kept = autocorrelation(emphasised)
         lar = tuple(log_area_ratio(r) for r in reflection_coefficients(correlations))
@@ -285,7 +299,8 @@ class FullRateEncoder:
         )
 
     def block(self, residual: Sequence[int]) -> Tuple[Block, int]:
-        """The parameters of the next block of the residual, and its maximum (GSM 06.10 sections 4.2.11 to 4.2.18)."""
+        """The parameters of the next block of the residual, and its maximum (GSM 06.10 sections
+        4.2.11 to 4.2.18)."""
         lag, bc = lag_and_gain(residual, self.past)
         prediction = predicted(lag, bc, self.past)
         error = saturate_all([d - p for d, p in zip(residual, prediction)])
@@ -304,9 +319,11 @@ class FullRateEncoder:
 def short_term_synthesis(
     sections: Sequence[Sequence[int]], memory: Sequence[int], residual: Sequence[int]
 ) -> Tuple[List[int], List[int]]:
-    """The speech of a frame of residual, and the filter's memory after it (GSM 06.10 section 4.3.4).
+    """The speech of a frame of residual, and the filter's memory after it (GSM 06.10 section
+    4.3.4).
 
-    Of each sample the sections are passed from the eighth to the first; each leaves what the next sample finds in the section above.
+    Of each sample the sections are passed from the eighth to the first; each leaves what the next
+    sample finds in the section above.
     """
     state = list(memory)
     speech = []
@@ -324,7 +341,8 @@ def short_term_synthesis(
 
 
 class FullRateDecoder:
-    """The decoder, from its home state on (GSM 06.10 section 4.3): every memory is 0, and the last lag is 40."""
+    """The decoder, from its home state on (GSM 06.10 section 4.3): every memory is 0, and the last
+    lag is 40."""
 
     def __init__(self) -> None:
         self.lag = LEAST_LAG

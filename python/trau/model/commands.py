@@ -1,11 +1,11 @@
-"""The commands on one call: `relay`, `decode`, `encode`, `frames`, `split`, `merge`, `follow` (docs/commands).
+"""The commands on one call: `relay`, `decode`, `encode`, `frames`, `split`, `merge`, `follow`
+(docs/commands).
 
-What a command makes of its line is made of the whole line; only then it is written, block by block in the order in which the command
-reads and writes, since a fault stops it there.
+What a command makes of its line is made of the whole line; only then it is written, block by block
+in the order in which the command reads and writes, since a fault stops it there.
 """
 
 from functools import partial
-from itertools import takewhile
 from typing import Callable, Dict, Iterable, List, NamedTuple, Optional, Sequence, Tuple
 
 from trau.rules import profile
@@ -24,7 +24,7 @@ from trau.rules.lines import DOWN, OCTETS_OF_SIDE, OUT, PCM, UP
 from trau.rules.parameters import bits_of_parameters, parameters_of_bits
 from trau.rules.search import FRAME, end_of_text, yields_by_period
 from trau.rules.slots import merge, split
-from trau.command_line.words import number
+from trau.rules.numbers import number
 
 from trau.model.basestation import answers, heard_by_period
 from trau.model.codec import FullRateDecoder, FullRateEncoder
@@ -57,7 +57,8 @@ def write_text(desk: Desk, text: str) -> None:
 
 
 def read_line(lines: Lines, call: int, side: str) -> Given:
-    """What an incoming line gives, to the most periods that a command takes; nothing is read behind them."""
+    """What an incoming line gives, to the most periods that a command takes; nothing is read behind
+    them."""
     return lines.read(call, side, profile.MOST_PERIODS * OCTETS_OF_SIDE[side])
 
 
@@ -82,13 +83,15 @@ def speech_of(octets: bytes) -> Optional[Bits]:
 
 
 def good_blocks(given: Given) -> List[Bits]:
-    """The data bits of the blocks before the first that isn't a good speech frame (docs/commands/relay.md)."""
-    return list(
-        takewhile(
-            lambda data: data is not None,
-            map(speech_of, blocks_of(given.octets, profile.FRAME_OCTETS)),
-        )
-    )
+    """The data bits of the blocks before the first that isn't a good speech frame
+    (docs/commands/relay.md)."""
+    good: List[Bits] = []
+    for octets in blocks_of(given.octets, profile.FRAME_OCTETS):
+        data = speech_of(octets)
+        if data is None:
+            break
+        good.append(data)
+    return good
 
 
 def relayed(data: Sequence[Bits]) -> List[bytes]:
@@ -110,11 +113,12 @@ def speech(
     lines: Lines,
     desk: Desk,
 ) -> str:
-    """`relay C` or `decode C`, by the word: the good speech frames of an aligned uplink to the side on which goes what is made of the data
-    bits of all blocks (docs/commands/relay.md, docs/commands/decode.md).
+    """`relay C` or `decode C`, by the word: the good speech frames of an aligned uplink to the side
+    on which goes what is made of the data bits of all blocks (docs/commands/relay.md,
+    docs/commands/decode.md).
 
-    What is made of a block is written before the next one is read. So a fault in writing goes before a refused block, and a refused
-    block before a fault of reading behind it."""
+    What is made of a block is written before the next one is read. So a fault in writing goes
+    before a refused block, and a refused block before a fault of reading behind it."""
     given = read_line(lines, call, UP)
     data = good_blocks(given)
     for octets in make(data):
@@ -131,7 +135,8 @@ def speech(
 
 
 def encoded(blocks: Sequence[bytes]) -> Iterable[bytes]:
-    """The downlink frames of blocks of 160 octets of A-law, from home, with SP 1 (docs/commands/encode.md)."""
+    """The downlink frames of blocks of 160 octets of A-law, from home, with SP 1
+    (docs/commands/encode.md)."""
     encoder = FullRateEncoder()
     for octets in blocks:
         parameters = encoder.encode(expand_all(Law.A, octets)).parameters
@@ -167,7 +172,8 @@ def frames(call: int, lines: Lines, desk: Desk) -> str:
 
 
 def split_slot(call: int, lines: Lines, desk: Desk) -> str:
-    """`split C`: the channels of a time slot to the Down lines of four calls (docs/commands/split.md)."""
+    """`split C`: the channels of a time slot to the Down lines of four calls
+    (docs/commands/split.md)."""
     given = read_line(lines, call, PCM)
     blocks = blocks_of(given.octets, profile.PCM_OCTETS)
     rest = b"" if given.failed else block(given.octets, profile.PCM_OCTETS, len(blocks))
@@ -183,7 +189,8 @@ def split_slot(call: int, lines: Lines, desk: Desk) -> str:
 def merge_slot(call: int, lines: Lines, desk: Desk) -> str:
     """`merge C`: the Up lines of four calls to a time slot (docs/commands/merge.md).
 
-    All four lines are read, block by block, before anything of a block is written; the first block that is short on a line is the last.
+    All four lines are read, block by block, before anything of a block is written; the first block
+    that is short on a line is the last.
     """
     given = [read_line(lines, call + channel, UP) for channel in range(profile.CHANNELS)]
     whole = min(len(one.octets) // profile.FRAME_OCTETS for one in given)
@@ -225,7 +232,8 @@ def follow(call: int, wanted: int, lines: Lines, desk: Desk) -> str:
 
 
 class CallCommand(NamedTuple):
-    """A command on one call: what does it and answers the text at its end, and the least and greatest numbers that its words may be."""
+    """A command on one call: what does it and answers the text at its end, and the least and
+    greatest numbers that its words may be."""
 
     work: Callable[..., str]
     ranges: Sequence[Tuple[int, int]] = ((1, profile.MOST_CALLS),)
@@ -243,20 +251,22 @@ COMMANDS: Dict[str, CallCommand] = {
 
 
 def asked(words: Sequence[str]) -> Optional[List[int]]:
-    """The numbers that the words of a command name, a call and what `follow` asks for, or None where they are wrong (docs/commands)."""
+    """The numbers that the words of a command name, a call and what `follow` asks for, or None
+    where they are wrong (docs/commands)."""
     ranges = COMMANDS[words[0]].ranges
     numbers = [number(word, *ends) for word, ends in zip(words[1:], ranges)]
-    if (
+    found = [each for each in numbers if each is not None]
+    is_wrong = (
         len(words) != 1 + len(ranges)
-        or None in numbers
-        or any(wanted % profile.WANTED_STEP for wanted in numbers[1:])
-    ):
-        return None
-    return numbers
+        or len(found) < len(ranges)
+        or any(wanted % profile.WANTED_STEP for wanted in found[1:])
+    )
+    return None if is_wrong else found
 
 
 def command(words: Sequence[str], lines: Lines, desk: Desk) -> Optional[int]:
-    """Runs a command on one call and gives its status; None where the first word names none of them (docs/commands)."""
+    """Runs a command on one call and gives its status; None where the first word names none of them
+    (docs/commands)."""
     if not words or words[0] not in COMMANDS:
         return None
     numbers = asked(words)

@@ -17,7 +17,8 @@ PATIENCE = 1800
 
 
 def is_built(program: Path) -> bool:
-    """Whether the script `trau` has a program that it can start at once, without proving and building it first."""
+    """Whether the script `trau` has a program that it can start at once, without proving and
+    building it first."""
     return (
         subprocess.run(
             [str(program)], env={**os.environ, "TRAU_IS_BUILT": "yes"}, stdin=subprocess.DEVNULL
@@ -27,7 +28,8 @@ def is_built(program: Path) -> bool:
 
 
 class StepResult(NamedTuple):
-    """What a step gave: the status (None: it didn't end), what was printed, and each file of its folder (None: a link, folder or device)."""
+    """What a step gave: the status (None: it didn't end), what was printed, and each file of its
+    folder (None: a link, folder or device)."""
 
     status: Optional[int]
     text: bytes
@@ -54,43 +56,39 @@ def contents(folder: Path) -> Dict[str, Optional[bytes]]:
     }
 
 
-def run_step(program: Path, step: Step, before: bytes, folder: Path) -> StepResult:
-    """What a program gives for a step; `before` is what the step before printed."""
-    printed = folder.with_name(folder.name + ".text")
-    given = folder.with_name(folder.name + ".stdin")
-    change = step.change
-    marked = (
-        b""
-        if change is None
-        else before.replace(change.old, change.new, 1)
-        if change.old
-        else before
-    )
-    given.write_bytes(marked + (step.stdin or b""))
+def status_of(program: Path, step: Step, folder: Path, reads: int, writes: int) -> Optional[int]:
+    """The status of a program that is run in a folder with these descriptors as standard streams;
+    None where it doesn't end in time."""
 
     def limit() -> None:
         if step.most_octets is not None:
             resource.setrlimit(resource.RLIMIT_FSIZE, (step.most_octets, step.most_octets))
 
-    surroundings = {**os.environ, "PYTHONDONTWRITEBYTECODE": "1"}
-    reads = os.open(folder if step.stdin is None else given, os.O_RDONLY)
-    writes = os.open(
-        FULL_DEVICE if step.to_full_device else printed, os.O_WRONLY | os.O_CREAT, 0o666
-    )
-    words = [str(program), *step.words]
-    status: Optional[int] = None
     try:
-        status = subprocess.run(
-            words,
+        return subprocess.run(
+            [str(program), *step.words],
             cwd=folder,
             stdin=reads,
             stdout=writes,
-            env=surroundings,
+            env={**os.environ, "PYTHONDONTWRITEBYTECODE": "1"},
             preexec_fn=limit,
             timeout=PATIENCE,
         ).returncode
     except subprocess.TimeoutExpired:
-        pass
+        return None
+
+
+def run_step(program: Path, step: Step, before: bytes, folder: Path) -> StepResult:
+    """What a program gives for a step; `before` is what the step before printed."""
+    printed = folder.with_name(folder.name + ".text")
+    given = folder.with_name(folder.name + ".stdin")
+    given.write_bytes(step.marked(before) + (step.stdin or b""))
+    reads = os.open(folder if step.stdin is None else given, os.O_RDONLY)
+    writes = os.open(
+        FULL_DEVICE if step.to_full_device else printed, os.O_WRONLY | os.O_CREAT, 0o666
+    )
+    try:
+        status = status_of(program, step, folder, reads, writes)
     finally:
         os.close(reads)
         os.close(writes)
@@ -108,7 +106,8 @@ def answers(program: Path, trial: Trial, folder: Path) -> List[StepResult]:
 
 
 def differences(trial: Trial, program: Path, model: Path, keep: Optional[Path] = None) -> List[str]:
-    """What differs between a program's answers and the model's, a line each. `keep` is a folder for the files where any does."""
+    """What differs between a program's answers and the model's, a line each. `keep` is a folder for
+    the files where any does."""
     with tempfile.TemporaryDirectory() as name:
         folder = Path(name)
         both = [

@@ -1,16 +1,15 @@
 """Compares the model's codec with libgsm on streams of fifty frames that are made from a seed, and says how many frames differ."""
 
-import pathlib
 import sys
 from typing import Sequence
-
 
 from trau.command_line.words import Words
 from trau.model.libgsm import find, table
 
 
 def main(words: Sequence[str]) -> int:
-    """Prints a line for each kind of frames; the status is 1 where one differs, 2 where libgsm isn't there."""
+    """Prints a line for each kind of frames; the status is 1 where one differs, 2 where libgsm
+    isn't there."""
     parser = Words(__doc__)
     parser.add_argument("--seed", type=int, default=1, help="what the streams are made from (1)")
     parser.add_argument(

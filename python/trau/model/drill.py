@@ -1,4 +1,5 @@
-"""Lines that are drawn from a number, the orders of a drill, and what a run makes of both (docs/commands/drill.md, docs/commands/live.md).
+"""Lines that are drawn from a number, the orders of a drill, and what a run makes of both
+(docs/commands/drill.md, docs/commands/live.md).
 
 All of it is this project's profile.
 """
@@ -24,7 +25,8 @@ class Drawn(NamedTuple):
 
 
 def draws(seed: int, call: int) -> Iterator[int]:
-    """The draws of a call: the highest octet of each state of a generator of 32 bits (docs/commands/drill.md, "What is drawn")."""
+    """The draws of a call: the highest octet of each state of a generator of 32 bits
+    (docs/commands/drill.md, "What is drawn")."""
     state = (seed * profile.DRILL_CALLS + call) % profile.DRILL_MODULUS
     while True:
         state = (profile.DRILL_FACTOR * state + profile.DRILL_ADD) % profile.DRILL_MODULUS
@@ -32,8 +34,8 @@ def draws(seed: int, call: int) -> Iterator[int]:
 
 
 def drawn_period(source: Iterator[int], period: int) -> Drawn:
-    """A period: a draw for the frame, 260 for its data bits, one for its field, and 160 or none for Pcm (docs/commands/drill.md,
-    "What is drawn")."""
+    """A period: a draw for the frame, 260 for its data bits, one for its field, and 160 or none for
+    Pcm (docs/commands/drill.md, "What is drawn")."""
     frame = next(source)
     data = "".join([str(draw * 2 // profile.DRILL_DRAWS) for draw in islice(source, 260)])
     field = profile.DRILL_FIELDS.get(next(source), 0)
@@ -43,8 +45,8 @@ def drawn_period(source: Iterator[int], period: int) -> Drawn:
 
 
 def uplink_octets(draw: int, data: Bits, field: int, period: int) -> bytes:
-    """The octets of Up that a draw stands for: a frame, also an idle one, with the drawn data bits, or no frame and zeros
-    (docs/commands/drill.md, "What is drawn")."""
+    """The octets of Up that a draw stands for: a frame, also an idle one, with the drawn data bits,
+    or no frame and zeros (docs/commands/drill.md, "What is drawn")."""
     kind = next(kind for least, kind in profile.DRILL_FRAMES if draw >= least)
     if kind is None:
         return bytes(profile.FRAME_OCTETS)
@@ -53,8 +55,8 @@ def uplink_octets(draw: int, data: Bits, field: int, period: int) -> bytes:
 
 
 def drawn_lines(seed: int, call: int, periods: int) -> IncomingLines:
-    """The incoming lines of a call: its periods in order, each from the draws after those of the period before
-    (docs/commands/drill.md, "What is drawn")."""
+    """The incoming lines of a call: its periods in order, each from the draws after those of the
+    period before (docs/commands/drill.md, "What is drawn")."""
     source = draws(seed, call)
     drawn = [drawn_period(source, period) for period in range(periods)]
     up, pcm = (b"".join(period[side] for period in drawn) for side in (0, 1))
@@ -62,8 +64,8 @@ def drawn_lines(seed: int, call: int, periods: int) -> IncomingLines:
 
 
 def drawn_orders(calls: int, periods: int) -> List[Order]:
-    """The orders of a drill: all calls open at 0; of each four the first is bridged with the next from a quarter to the half
-    (docs/commands/drill.md, "What is drawn")."""
+    """The orders of a drill: all calls open at 0; of each four the first is bridged with the next
+    from a quarter to the half (docs/commands/drill.md, "What is drawn")."""
     firsts = [call for call in range(1, calls) if call % profile.DRILL_BRIDGE_CALLS == 1]
     lines = [f"0 open {call}" for call in range(1, calls + 1)]
     lines += [f"{periods // 4} bridge {call} {call + 1}" for call in firsts]
@@ -72,13 +74,15 @@ def drawn_orders(calls: int, periods: int) -> List[Order]:
 
 
 def drawn_farm(seed: int, calls: int, periods: int, orders: Sequence[Order]) -> Farm:
-    """What a run of so many periods makes of the drawn lines and of orders (docs/commands/drill.md)."""
+    """What a run of so many periods makes of the drawn lines and of orders
+    (docs/commands/drill.md)."""
     incoming = {call: drawn_lines(seed, call, periods) for call in range(1, calls + 1)}
     return farm_of(plan_of(orders, periods, incoming))
 
 
 def sum_lines(farm: Farm) -> List[str]:
-    """`sum C out X down Y` of each call: the sums of the octets of its outgoing lines (docs/commands/drill.md, "Example")."""
+    """`sum C out X down Y` of each call: the sums of the octets of its outgoing lines
+    (docs/commands/drill.md, "Example")."""
     return [
         f"sum {call.number} out {sum_of(call.outgoing.out)} down {sum_of(call.outgoing.down)}"
         for call in farm.calls
@@ -92,8 +96,9 @@ def drill_text(seed: int, calls: int, periods: int) -> str:
 
 
 def live_text(seed: int, calls: int, periods: int) -> str:
-    """The text of a live drill, in which calls only open: the sums, and how many periods and calls there were (docs/commands/live.md). Which caller
-    posts and works a period changes nothing, so nothing of callers and inboxes is here."""
+    """The text of a live drill, in which calls only open: the sums, and how many periods and calls
+    there were (docs/commands/live.md). Which caller posts and works a period changes nothing, so
+    nothing of callers and inboxes is here."""
     opens = [read_order(call, f"0 open {call}") for call in range(1, calls + 1)]
     return text_of(
         [

@@ -1,12 +1,13 @@
-"""The model's codec beside libgsm, where that is installed: the same samples through both encoders, the same parameters through both
-decoders. libgsm is another's implementation of GSM 06.10; what it is compared on is made from a seed."""
+"""The model's codec beside libgsm, where that is installed: the same samples through both encoders,
+the same parameters through both decoders. libgsm is another's implementation of GSM 06.10; what it
+is compared on is made from a seed."""
 
 import ctypes
 import ctypes.util
 import random
 from operator import add as add_up
 from pathlib import Path
-from typing import Dict, List, NamedTuple, Optional, Sequence, Tuple
+from typing import Callable, Dict, List, NamedTuple, Optional, Sequence, Tuple
 
 from trau.rules.arithmetic import saturate
 from trau.rules.g711 import Law, expand_all
@@ -90,7 +91,8 @@ def squares(draw: random.Random) -> List[int]:
 
 
 def steady_squares(draw: random.Random) -> List[int]:
-    """Fifty frames of one square wave of full scale. A library that sums correlations in floating point departs on some of them."""
+    """Fifty frames of one square wave of full scale. A library that sums correlations in floating
+    point departs on some of them."""
     period = draw.randrange(2, 161)
     start, high = draw.randrange(period), draw.randrange(1, period)
     return [32767 if (k + start) % period < high else -32768 for k in range(SAMPLES * FRAMES)]
@@ -106,7 +108,7 @@ def steps(draw: random.Random) -> List[int]:
     return samples[: SAMPLES * FRAMES]
 
 
-SIGNALS = {
+SIGNALS: Dict[str, Callable[[random.Random], List[int]]] = {
     "speech": recorded,
     "saturating": saturating,
     "noise": noise,
@@ -132,7 +134,10 @@ def extreme_parameters(draw: random.Random) -> List[Parameters]:
     ]
 
 
-PARAMETERS = {"any": any_parameters, "extreme": extreme_parameters}
+PARAMETERS: Dict[str, Callable[[random.Random], List[Parameters]]] = {
+    "any": any_parameters,
+    "extreme": extreme_parameters,
+}
 
 
 # Comparing.
@@ -171,9 +176,11 @@ def decoders(library: ctypes.CDLL, parameters: Sequence[Parameters]) -> Compared
 
 
 def table(library: ctypes.CDLL, seed: int, streams: int) -> Dict[str, Compared]:
-    """Compares streams of fifty frames: of each kind how many frames were compared, and how many of them differ.
+    """Compares streams of fifty frames: of each kind how many frames were compared, and how many of
+    them differ.
 
-    Half of the streams go through the encoders, and what the model made of them through the decoders; the others through the decoders.
+    Half of the streams go through the encoders, and what the model made of them through the
+    decoders; the others through the decoders.
     """
     draw = random.Random(seed)
     sums: Dict[str, Compared] = {}

@@ -1,14 +1,15 @@
 """The outside: lines as files of the current folder, and the standard streams (docs/FILES.md).
 
-Everything that fails here fails in the system: a missing file, a folder in a file's place, a full device, a limit on file sizes. But
-a line whose file is another line's fails here. Incoming lines are read before any outgoing one is written, so where an incoming
-line leads to a file that this run writes, the model names the outgoing line also where a run of rounds names the incoming one.
+Everything that fails here fails in the system: a missing file, a folder in a file's place, a full
+device, a limit on file sizes. But a line whose file is another line's fails here. Incoming lines
+are read before any outgoing one is written, so where an incoming line leads to a file that this run
+writes, the model names the outgoing line also where a run of rounds names the incoming one.
 """
 
 import os
 import stat
 from pathlib import Path
-from typing import Callable, Dict, Optional, Tuple
+from typing import Callable, Dict, List, Optional, Tuple
 
 from trau.rules.lines import INCOMING, name_of
 from trau.rules.profile import MOST_CALLS
@@ -22,12 +23,13 @@ Identity = Tuple[int, int]  # a file's device and inode
 
 
 class SharedFile(OSError):
-    """The file is that of another line, and one of both is written (docs/FILES.md, "A file that is written is one line's")."""
+    """The file is that of another line, and one of both is written (docs/FILES.md, "A file that is
+    written is one line's")."""
 
 
 def read_all(read: Callable[[int], bytes], most: Optional[int]) -> Given:
     """What reads give up to `most` octets, the end or the first failure (docs/FILES.md)."""
-    parts = []
+    parts: List[bytes] = []
     left = most
     while left is None or left > 0:
         try:
@@ -42,7 +44,8 @@ def read_all(read: Callable[[int], bytes], most: Optional[int]) -> Given:
 
 
 def write_all(descriptor: int, octets: bytes) -> int:
-    """How many octets a descriptor took: all, or a proper prefix where a write failed or took none (docs/FILES.md)."""
+    """How many octets a descriptor took: all, or a proper prefix where a write failed or took none
+    (docs/FILES.md)."""
     done = 0
     while done < len(octets):
         try:
@@ -56,7 +59,8 @@ def write_all(descriptor: int, octets: bytes) -> int:
 
 
 def identity_of(found: os.stat_result) -> Identity:
-    """A file's device and inode, which are the same by whatever name it is opened (docs/FILES.md)."""
+    """A file's device and inode, which are the same by whatever name it is opened
+    (docs/FILES.md)."""
     return found.st_dev, found.st_ino
 
 
@@ -67,8 +71,8 @@ def is_recording(identity: Identity) -> bool:
 
 
 class FolderLines:
-    """The lines of the current folder: file `7.up` is the Up line of call 7. Keeps how far each line was read and written, and which
-    line has which file of a disk."""
+    """The lines of the current folder: file `7.up` is the Up line of call 7. Keeps how far each
+    line was read and written, and which line has which file of a disk."""
 
     def __init__(self) -> None:
         self._moved: Dict[Tuple[int, str], int] = {}
@@ -77,7 +81,8 @@ class FolderLines:
         ] = {}  # the lines that have the file, and whether each is written
 
     def read(self, call: int, side: str, most: Optional[int] = None) -> Given:
-        """The next octets of a line, `most` at most; the file is opened for it, so a missing one fails here (docs/FILES.md)."""
+        """The next octets of a line, `most` at most; the file is opened for it, so a missing one
+        fails here (docs/FILES.md)."""
         name = name_of(call, side)
         try:
             with open(name, "rb", buffering=0) as line:
@@ -90,8 +95,8 @@ class FolderLines:
         return given
 
     def write(self, call: int, side: str, octets: bytes) -> bool:
-        """Appends octets to what this program wrote of the line; the first write makes its file, or empties an older one
-        (docs/FILES.md)."""
+        """Appends octets to what this program wrote of the line; the first write makes its file, or
+        empties an older one (docs/FILES.md)."""
         name, before = name_of(call, side), self._moved.get((call, side), 0)
         try:
             with open(
@@ -108,8 +113,9 @@ class FolderLines:
     def _claim(
         self, descriptor: int, name: str, is_written: bool, is_emptied: bool = False
     ) -> None:
-        """Has the file be the line's, unless it is another line's and one of both is written; and empties an older one, unless it is a recording
-        of this folder by another name (docs/FILES.md)."""
+        """Has the file be the line's, unless it is another line's and one of both is written; and
+        empties an older one, unless it is a recording of this folder by another name
+        (docs/FILES.md)."""
         found = os.fstat(descriptor)
         if not stat.S_ISREG(found.st_mode):
             return
@@ -125,7 +131,8 @@ class FolderLines:
 
 
 class StandardStreams:
-    """Standard input, which has the orders, and standard output, which takes the texts, as descriptors of the system."""
+    """Standard input, which has the orders, and standard output, which takes the texts, as
+    descriptors of the system."""
 
     def __init__(self, reads: int, writes: int) -> None:
         self._reads, self._writes = reads, writes
@@ -135,6 +142,7 @@ class StandardStreams:
         return read_all(lambda size: os.read(self._reads, size), most)
 
     def write(self, text: str) -> bool:
-        """Writes a text to standard output; False where a proper prefix of it went out, and the output failed (docs/FILES.md)."""
+        """Writes a text to standard output; False where a proper prefix of it went out, and the
+        output failed (docs/FILES.md)."""
         octets = text.encode("ascii")
         return write_all(self._writes, octets) == len(octets)

@@ -1,11 +1,13 @@
-"""Lines and the standard streams as the commands see them: what can be read and written, and that it can fail (docs/FILES.md); statuses."""
+"""Lines and the standard streams as the commands see them: what can be read and written, and that
+it can fail (docs/FILES.md); statuses."""
 
 import enum
 from typing import Dict, Iterable, List, NamedTuple, Optional, Protocol, Tuple
 
 
 class Status(enum.IntEnum):
-    """How the program ended (docs/COMMANDS.md, "Statuses"). Status 5, out of memory, the model never has."""
+    """How the program ended (docs/COMMANDS.md, "Statuses"). Status 5, out of memory, the model
+    never has."""
 
     DONE = 0
     USAGE = 1
@@ -26,13 +28,16 @@ class Given(NamedTuple):
 
 
 class Lines(Protocol):
-    """The lines of all calls. A line that failed is never used again (docs/OPERATORS.md, "Faults")."""
+    """The lines of all calls. A line that failed is never used again (docs/OPERATORS.md,
+    "Faults")."""
 
     def read(self, call: int, side: str, most: Optional[int] = None) -> Given:
-        """The next octets of an incoming line, `most` of them or all; fewer than that, and no fault: the line has ended."""
+        """The next octets of an incoming line, `most` of them or all; fewer than that, and no
+        fault: the line has ended."""
 
     def write(self, call: int, side: str, octets: bytes) -> bool:
-        """Appends octets, one or more, to an outgoing line. False: it failed, and has a proper prefix of them."""
+        """Appends octets, one or more, to an outgoing line. False: it failed, and has a proper
+        prefix of them."""
 
 
 class Desk(Protocol):
@@ -42,14 +47,16 @@ class Desk(Protocol):
         """The next octets of standard input, `most` at most; fewer, and no fault: it has ended."""
 
     def write(self, text: str) -> bool:
-        """Writes a text to standard output. False: that failed, and a proper prefix of it went out."""
+        """Writes a text to standard output. False: that failed, and a proper prefix of it went
+        out."""
 
 
 Place = Tuple[int, str]
 
 
 class MemoryLines:
-    """Lines in memory, for tests: what incoming lines hold, which of them fail at their end, and what room outgoing lines have."""
+    """Lines in memory, for tests: what incoming lines hold, which of them fail at their end, and
+    what room outgoing lines have."""
 
     def __init__(
         self,
@@ -58,9 +65,9 @@ class MemoryLines:
         room: Optional[Dict[Place, int]] = None,
     ) -> None:
         self.contents = contents
-        self.failing = set(
-            failing
-        )  # incoming lines that fail where their contents end; those without contents at the first read
+        # incoming lines that fail where their contents end; those without contents at the first
+        # read
+        self.failing = set(failing)
         self.room = room or {}  # outgoing lines that take so many octets and no more
         self.places: Dict[Place, int] = {}
         self.written: Dict[Place, bytes] = {}

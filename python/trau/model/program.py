@@ -1,6 +1,8 @@
-"""The model as a program: takes the words, the files of the current folder and the standard streams of `trau`.
+"""The model as a program: takes the words, the files of the current folder and the standard streams
+of `trau`.
 
-`model/trau` of a clone starts it with standard input as descriptor 3, since Python doesn't start where standard input is a folder.
+`model/trau` of a clone starts it with standard input as descriptor 3, since Python doesn't start
+where standard input is a folder.
 """
 
 from typing import Sequence

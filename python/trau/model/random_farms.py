@@ -4,18 +4,18 @@ Farm number i, from 0, is drawn from the seed plus i, so a difference is met aga
 script `trau` at the top of the repository, which TRAU_PROGRAM in the environment may lead to another binary.
 """
 
-import pathlib
-import sys
+import argparse
 import time
 from concurrent.futures import ProcessPoolExecutor, as_completed
-
+from pathlib import Path
+from typing import List, Optional, Sequence
 
 from trau.command_line.words import Words, number_within
 from trau.model.compare import MODEL, TRAU, differences, is_built
 from trau.model.trials import draw_trial
 
 
-def parsed(words):
+def parsed(words: Sequence[str]) -> argparse.Namespace:
     """The words of the command line, as numbers."""
     parser = Words(__doc__)
     parser.add_argument("--seed", type=int, required=True, help="the first farm's seed")
@@ -31,9 +31,7 @@ def parsed(words):
         default=1,
         help="farms at a time (default 1)",
     )
-    parser.add_argument(
-        "--keep", type=pathlib.Path, help="a new folder for the files of farms that differ"
-    )
+    parser.add_argument("--keep", type=Path, help="a new folder for the files of farms that differ")
     asked = parser.parse_args(words)
     if asked.keep is not None and asked.keep.exists():
         parser.error(f"{asked.keep} is there already")
@@ -44,14 +42,14 @@ def parsed(words):
     return asked
 
 
-def one_farm(seed, keep, ends_at):
+def one_farm(seed: int, keep: Optional[Path], ends_at: Optional[float]) -> Optional[List[str]]:
     """The differences of a seed's farm; None where there is no time for it."""
     if ends_at is not None and time.monotonic() >= ends_at:
         return None
     return differences(draw_trial(seed), TRAU, MODEL, keep / str(seed) if keep else None)
 
 
-def main(words):
+def main(words: Sequence[str]) -> int:
     """Runs the farms, prints what differs, and answers 1 where anything does."""
     asked = parsed(words)
     ends_at = None if asked.seconds is None else time.monotonic() + asked.seconds

@@ -1,7 +1,8 @@
-"""The recorded answers of this repository, each made anew by the model: file by file, which octets it has to have.
+"""The recorded answers of this repository, each made anew by the model: file by file, which octets
+it has to have.
 
-Their inputs are recorded lines, orders and words; of `checks/follow` the downlinks that the model makes of the recorded farms. A tool draws
-the picture of the farm of examples.
+Their inputs are recorded lines, orders and words; of `checks/follow` the downlinks that the model
+makes of the recorded farms. A tool draws the picture of the farm of examples.
 """
 
 import subprocess
@@ -30,7 +31,8 @@ class Ran(NamedTuple):
 
 
 def run_command(words: Sequence[str], incoming: Dict[str, bytes], stdin: bytes = b"") -> Ran:
-    """Runs a command of the model over lines in memory, which have file names; a line that isn't there fails."""
+    """Runs a command of the model over lines in memory, which have file names; a line that isn't
+    there fails."""
     lines = MemoryLines({place_of(name): octets for name, octets in incoming.items()})
     desk = MemoryDesk(stdin)
     status = top(words, lines, desk)
@@ -54,7 +56,8 @@ def lines_in(folder: Path) -> Dict[str, bytes]:
 
 
 def checksum(octets: bytes) -> bytes:
-    """The line that the command `cksum` prints of standard input: POSIX's sum, and the number of octets."""
+    """The line that the command `cksum` prints of standard input: POSIX's sum, and the number of
+    octets."""
     return subprocess.run(["cksum"], input=octets, check=True, stdout=subprocess.PIPE).stdout
 
 
@@ -240,7 +243,8 @@ def codec_answers() -> Files:
 
 
 class Group(NamedTuple):
-    """Recorded answers that are made together: what makes them, of what, and whether they may be replaced by the model's."""
+    """Recorded answers that are made together: what makes them, of what, and whether they may be
+    replaced by the model's."""
 
     make: Callable[..., Files]
     arguments: Tuple[object, ...] = ()

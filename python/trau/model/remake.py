@@ -6,18 +6,16 @@ libgsm in checks/vectors, which no rule of this project changes.
 """
 
 import os
-import pathlib
-import sys
 from concurrent.futures import ProcessPoolExecutor
-
+from typing import Sequence
 
 from trau.command_line.words import Words, number_within
 from trau.model.recorded import groups, made
 from trau.model.trials import TOP
 
 
-def main(words):
-    """Compares, and replaces where asked to."""
+def main(words: Sequence[str]) -> int:
+    """Compares, and replaces where asked to; the status is 1 where anything differs."""
     parser = Words(__doc__)
     parser.add_argument("--write", action="store_true", help="replace what differs")
     parser.add_argument(

@@ -13,7 +13,6 @@ from trau.model.farm import (
     Farm,
     faults_met,
     farm_of,
-    in_order,
     plan_of,
     read_incoming,
     report_of,
@@ -32,8 +31,9 @@ class Failure(Exception):
 
 
 def top(words: Sequence[str], lines: Lines, desk: Desk) -> int:
-    """Carries out the command that the words ask for, and answers the program's status (docs/commands). That it can't be written why nothing
-    was done leaves the status (docs/COMMANDS.md, "Statuses")."""
+    """Carries out the command that the words ask for, and answers the program's status
+    (docs/commands). That it can't be written why nothing was done leaves the status
+    (docs/COMMANDS.md, "Statuses")."""
     of_a_line = command(words, lines, desk)
     if of_a_line is not None:
         return of_a_line
@@ -55,16 +55,16 @@ def _others(command: Optional[Asked], lines: Lines, desk: Desk) -> Status:
 
 
 def say(text: str, has_failed_lines: bool, desk: Desk) -> Status:
-    """Writes a command's text at its end: a standard output that fails goes before lines that failed (docs/COMMANDS.md,
-    "Statuses")."""
+    """Writes a command's text at its end: a standard output that fails goes before lines that
+    failed (docs/COMMANDS.md, "Statuses")."""
     if not desk.write(text):
         return Status.UNWRITTEN
     return Status.LINE_FAILED if has_failed_lines else Status.DONE
 
 
 def read_desk(most: int, desk: Desk) -> bytes:
-    """All of standard input where it has `most` octets at most: a failure goes before too many octets (docs/COMMANDS.md,
-    "Statuses")."""
+    """All of standard input where it has `most` octets at most: a failure goes before too many
+    octets (docs/COMMANDS.md, "Statuses")."""
     given = desk.read(most + 1)
     if given.failed:
         raise Failure(Status.UNREAD, "orders unread")
@@ -84,12 +84,13 @@ def read_orders(text: bytes) -> List[Order]:
 
 
 def work(command: Asked, lines: Lines, desk: Desk) -> Tuple[Farm, List[FailedLine]]:
-    """Reads the orders and the lines that they ask for, writes what comes of them, and answers that with the lines that failed
+    """Reads the orders and the lines that they ask for, writes what comes of them, and answers that
+    with the lines that failed, by call and of a call in the order up, pcm, down, out
     (docs/commands/run.md)."""
     orders = read_orders(read_desk(profile.MOST_ORDER_OCTETS, desk))
     plan = plan_of(orders, command.periods, read_incoming(orders, command.periods, lines))
     farm = farm_of(plan)
-    return farm, in_order(faults_met(plan, command.batch) + write_outgoing(farm, lines))
+    return farm, sorted(faults_met(plan, command.batch) + write_outgoing(farm, lines))
 
 
 def run(command: Asked, lines: Lines, desk: Desk) -> Status:
@@ -99,7 +100,8 @@ def run(command: Asked, lines: Lines, desk: Desk) -> Status:
 
 
 def save(command: Asked, lines: Lines, desk: Desk) -> Status:
-    """`save`: a run to the mark's period, and the mark, or the lines that failed (docs/commands/save.md)."""
+    """`save`: a run to the mark's period, and the mark, or the lines that failed
+    (docs/commands/save.md)."""
     farm, failed = work(command, lines, desk)
     text = (
         text_of([line.line() for line in failed])
@@ -110,9 +112,11 @@ def save(command: Asked, lines: Lines, desk: Desk) -> Status:
 
 
 def resume(command: Asked, lines: Lines, desk: Desk) -> Status:
-    """`resume`: the whole run again, of which the octets from the mark's period on are written (docs/commands/resume.md).
+    """`resume`: the whole run again, of which the octets from the mark's period on are written
+    (docs/commands/resume.md).
 
-    Before anything is written, the calls that are open at the mark's period are compared with the mark's.
+    Before anything is written, the calls that are open at the mark's period are compared with the
+    mark's.
     """
     try:
         mark, rest = read_mark(read_desk(profile.MOST_MARKED_OCTETS, desk))
@@ -126,7 +130,7 @@ def resume(command: Asked, lines: Lines, desk: Desk) -> Status:
         raise Failure(Status.DIFFERS, f"save differs {call}")
     plan = plan_of(orders, periods, incoming)
     farm = farm_of(plan)
-    failed = in_order(
+    failed = sorted(
         faults_met(plan, command.batch, [mark.period]) + write_outgoing(farm, lines, mark.period)
     )
     return say(report_of(farm, failed).text(), bool(failed), desk)

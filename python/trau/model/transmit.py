@@ -1,7 +1,8 @@
-"""Discontinuous transmission (DTX): what is sent of encoded frames, modelled on GSM 06.31 and 06.32.
+"""Discontinuous transmission (DTX): what is sent of encoded frames, modelled on GSM 06.31 and
+06.32.
 
-The level, the hangover and the silence descriptors are this project's profile (docs/OPERATORS.md, "Levels and discontinuous
-transmission"; docs/PROFILE.md, "Silence descriptors").
+The level, the hangover and the silence descriptors are this project's profile (docs/OPERATORS.md,
+"Levels and discontinuous transmission"; docs/PROFILE.md, "Silence descriptors").
 """
 
 import enum
@@ -15,7 +16,8 @@ from trau.model.codec import Encoded, code_maximum, code_ratios
 
 
 class Dtx(enum.Enum):
-    """When discontinuous transmission applies to a call; the value is the word of the order (docs/OPERATORS.md, "Orders")."""
+    """When discontinuous transmission applies to a call; the value is the word of the order
+    (docs/OPERATORS.md, "Orders")."""
 
     ON = "on"
     OFF = "off"
@@ -30,7 +32,8 @@ class Coded(NamedTuple):
     on: bool  # whether discontinuous transmission applies
 
     def is_speech(self) -> bool:
-        """Whether it counts as speech: its peak isn't below the level (this project's profile, in place of GSM 06.32)."""
+        """Whether it counts as speech: its peak isn't below the level (this project's profile, in
+        place of GSM 06.32)."""
         return not self.on or self.encoded.peak >= self.level
 
 
@@ -42,7 +45,8 @@ class SentFrame(NamedTuple):
 
 
 def silence_descriptor(frames: Sequence[Coded]) -> Parameters:
-    """The silence descriptor of four frames: the means of what they had before coding (GSM 06.12, numbers of this project's profile).
+    """The silence descriptor of four frames: the means of what they had before coding (GSM 06.12,
+    numbers of this project's profile).
 
     A mean is cut to the next whole number below it."""
     traces = [frame.encoded.trace for frame in frames]
@@ -53,7 +57,8 @@ def silence_descriptor(frames: Sequence[Coded]) -> Parameters:
 
 
 def lengths_of_pauses(frames: Sequence[Coded]) -> List[int]:
-    """For each frame how many frames without speech stand unbroken up to it; 0 for a frame of speech."""
+    """For each frame how many frames without speech stand unbroken up to it; 0 for a frame of
+    speech."""
     return list(
         accumulate(
             (0 if frame.is_speech() else 1 for frame in frames),
@@ -64,12 +69,17 @@ def lengths_of_pauses(frames: Sequence[Coded]) -> List[int]:
 
 def last_place(places: Sequence[bool]) -> List[Optional[int]]:
     """For each index the last one below it at which `places` holds, or None."""
-    marks = [None] + [index if holds else None for index, holds in enumerate(places)]
-    return list(accumulate(marks, lambda last, mark: last if mark is None else mark))[:-1]
+    found: List[Optional[int]] = []
+    last: Optional[int] = None
+    for index, holds in enumerate(places):
+        found.append(last)
+        last = index if holds else last
+    return found
 
 
 def sent_frames(frames: Sequence[Coded]) -> List[SentFrame]:
-    """What is sent of the frames that are encoded in a row from home (docs/OPERATORS.md, "Levels and discontinuous transmission")."""
+    """What is sent of the frames that are encoded in a row from home (docs/OPERATORS.md, "Levels
+    and discontinuous transmission")."""
     pauses = lengths_of_pauses(frames)
     made = [length >= profile.DESCRIBED_FROM for length in pauses]
     last_made = last_place(made)

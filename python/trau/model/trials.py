@@ -1,7 +1,9 @@
-"""Trials that are drawn from a seed: files, words and streams of one command or of a few, for the model and for `trau`.
+"""Trials that are drawn from a seed: files, words and streams of one command or of a few, for the
+model and for `trau`.
 
-Lines are put together of speech, silence descriptors, losses, slips, broken sync bits and random bits; orders are mostly such as make
-sense, and some that don't; in two of five trials a line, a stream or the size of files is made to fail.
+Lines are put together of speech, silence descriptors, losses, slips, broken sync bits and random
+bits; orders are mostly such as make sense, and some that don't; in two of five trials a line, a
+stream or the size of files is made to fail.
 """
 
 import random
@@ -31,7 +33,8 @@ SPEECH_PCM = b"".join((TOP / f"examples/farm/{call}.pcm").read_bytes() for call 
 
 FULL_DEVICE = "/dev/full"
 ENDLESS_DEVICE = "/dev/zero"
-# At most so many periods of all calls of a farm together, so that a trial takes some seconds at most.
+# At most so many periods of all calls of a farm together, so that a trial takes some seconds at
+# most.
 MOST_WORK = 240
 
 
@@ -49,22 +52,38 @@ Entry = Union[bytes, Link, Folder]
 
 
 class Change(NamedTuple):
-    """A change of what a step printed before the next step reads it: the first `old` is replaced."""
+    """A change of what a step printed before the next step reads it: the first `old` is replaced,
+    and an empty one changes nothing."""
 
     old: bytes
     new: bytes
 
+    def of(self, printed: bytes) -> bytes:
+        """What a step printed, so changed."""
+        return printed.replace(self.old, self.new, 1) if self.old else printed
+
 
 class Step(NamedTuple):
-    """A command: its words, what standard input gives (None: it can't be read), where standard output goes."""
+    """A command: its words, what standard input gives (None: it can't be read), where standard
+    output goes."""
 
     words: Sequence[str]
     stdin: Optional[bytes]
     to_full_device: bool = False
     most_octets: Optional[int] = None  # the limit on the size of files, that of standard output too
-    change: Optional[
-        Change
-    ] = None  # not None: standard input is what the step before printed, so changed, and then `stdin`
+    # Not None: standard input is what the step before printed, so changed, and then `stdin`.
+    change: Optional[Change] = None
+
+    def marked(self, before: bytes) -> bytes:
+        """What standard input has of `before`, which the step before printed."""
+        return b"" if self.change is None else self.change.of(before)
+
+
+class Drawing(NamedTuple):
+    """What is drawn for a trial: the files of its folders, and its steps."""
+
+    files: Dict[str, Entry]
+    steps: List[Step]
 
 
 class Trial(NamedTuple):
@@ -80,10 +99,10 @@ def draw_trial(seed: int) -> Trial:
     source = random.Random(seed)
     kinds = (run_trial, parts_trial, tool_trial, slots_trial, follow_trial, drawn_trial)
     kind = source.choices(kinds, (60, 12, 14, 4, 4, 6))[0]
-    files, steps = kind(source)
+    drawing = kind(source)
     if kind is not drawn_trial and source.random() < 0.4:
-        files, steps = with_fault(source, files, steps)
-    return Trial(seed, files, steps)
+        drawing = with_fault(source, drawing)
+    return Trial(seed, *drawing)
 
 
 # Uplinks
@@ -134,7 +153,8 @@ def with_bit_turned(frame: Bits, place: int) -> Bits:
 
 
 def uplink_line(source: random.Random, periods: int) -> bytes:
-    """An Up line of so many periods: stretches of one manner each, with slips and broken sync bits between them, or a hostile line."""
+    """An Up line of so many periods: stretches of one manner each, with slips and broken sync bits
+    between them, or a hostile line."""
     if source.random() < 0.06:
         return hostile_line(source, periods)
     bits = random_bits(source, source.choice((0, 0, 0, 5, source.randrange(1, 400))))
@@ -162,7 +182,8 @@ def uplink_line(source: random.Random, periods: int) -> bytes:
 
 
 def hostile_line(source: random.Random, periods: int) -> bytes:
-    """An Up line that strains the search or the downlink: no frame at all, the same shift in each frame, frames that overlap."""
+    """An Up line that strains the search or the downlink: no frame at all, the same shift in each
+    frame, frames that overlap."""
     field = source.choice((0, 39, 62, 63))
     frame = write_up(
         UpFrame(
@@ -175,7 +196,8 @@ def hostile_line(source: random.Random, periods: int) -> bytes:
 
 
 def exchange_line(source: random.Random, law: Law, periods: int) -> bytes:
-    """A Pcm line of so many periods of speech, silence, noise and the loudest octets, in stretches."""
+    """A Pcm line of so many periods of speech, silence, noise and the loudest octets, in
+    stretches."""
     octets = b""
     while len(octets) < periods * profile.PCM_OCTETS:
         size = source.randrange(1, 30) * profile.PCM_OCTETS
@@ -198,12 +220,20 @@ def exchange_line(source: random.Random, law: Law, periods: int) -> bytes:
 
 
 class DrawnCall(NamedTuple):
-    """A call of a farm that is drawn: its number, its law, its opening, and the periods of its lines."""
+    """A call of a farm that is drawn: its number, its law, its opening, and the periods of its
+    lines."""
 
     number: int
     law: Law
     opening: int
     periods: int
+
+
+class DrawnOrder(NamedTuple):
+    """An order that is drawn: its stamp, and its words, which may be bad."""
+
+    stamp: int
+    words: str
 
 
 def draw_members(source: random.Random) -> List[DrawnCall]:
@@ -232,18 +262,21 @@ def draw_members(source: random.Random) -> List[DrawnCall]:
     ]
 
 
-def draw_orders(source: random.Random, members: Sequence[DrawnCall]) -> List[Tuple[int, str]]:
+def draw_orders(source: random.Random, members: Sequence[DrawnCall]) -> List[DrawnOrder]:
     """Orders by stamp: an `open` of each call, and others, some of which are refused."""
     opens = [
-        (member.opening, f"open {member.number}" + (" mulaw" if member.law is Law.MU else ""))
+        DrawnOrder(
+            member.opening, f"open {member.number}" + (" mulaw" if member.law is Law.MU else "")
+        )
         for member in members
     ]
     orders = opens + [draw_order(source, members) for _ in range(source.choice((0, 2, 5, 10, 20)))]
-    return sorted(orders, key=lambda order: order[0])
+    return sorted(orders, key=lambda order: order.stamp)
 
 
-def draw_order(source: random.Random, members: Sequence[DrawnCall]) -> Tuple[int, str]:
-    """An order on calls of the farm, mostly while they are open, often at an end; now and then on another call or another time."""
+def draw_order(source: random.Random, members: Sequence[DrawnCall]) -> DrawnOrder:
+    """An order on calls of the farm, mostly while they are open, often at an end; now and then on
+    another call or another time."""
     one, other = source.choice(members), source.choice(members)
     if source.random() < 0.93:
         other = source.choice([member for member in members if member is not one] or [one])
@@ -260,11 +293,12 @@ def draw_order(source: random.Random, members: Sequence[DrawnCall]) -> Tuple[int
         f"dtx {call} {source.choice(('on', 'on', 'off', 'uplink'))}",
         f"open {call}",
     )
-    return stamp, source.choices(words, (8, 3, 1, 3, 4, 1))[0]
+    return DrawnOrder(stamp, source.choices(words, (8, 3, 1, 3, 4, 1))[0])
 
 
-def text_of_orders(source: random.Random, orders: Sequence[Tuple[int, str]]) -> bytes:
-    """The text of orders, now and then with a line that isn't in the grammar, or without its last line feed."""
+def text_of_orders(source: random.Random, orders: Sequence[DrawnOrder]) -> bytes:
+    """The text of orders, now and then with a line that isn't in the grammar, or without its last
+    line feed."""
     lines = [f"{stamp} {words}".encode() for stamp, words in orders]
     if source.random() < 0.06:
         bad = (
@@ -359,7 +393,7 @@ def periods_words(source: random.Random, members: Sequence[DrawnCall]) -> List[L
 # Trials by kind
 
 
-def run_trial(source: random.Random) -> Tuple[Dict[str, Entry], List[Step]]:
+def run_trial(source: random.Random) -> Drawing:
     """A run; now and then with endless lines, which then have an end of the run."""
     files, members, orders = draw_farm(source)
     options = pace_words(source) + periods_words(source, members)
@@ -368,11 +402,12 @@ def run_trial(source: random.Random) -> Tuple[Dict[str, Entry], List[Step]]:
         options = pace_words(source) + [
             option(source, "periods", members[0].opening + source.randrange(1, MOST_WORK))
         ]
-    return files, [Step(joined(source, "run", options), orders)]
+    return Drawing(files, [Step(joined(source, "run", options), orders)])
 
 
-def parts_trial(source: random.Random) -> Tuple[Dict[str, Entry], List[Step]]:
-    """A run in two parts, now and then with a mark or with orders that aren't those of the first part."""
+def parts_trial(source: random.Random) -> Drawing:
+    """A run in two parts, now and then with a mark or with orders that aren't those of the first
+    part."""
     files, members, orders = draw_farm(source)
     first = min(member.opening for member in members)
     last = max(member.opening + member.periods for member in members)
@@ -395,10 +430,10 @@ def parts_trial(source: random.Random) -> Tuple[Dict[str, Entry], List[Step]]:
         Step(joined(source, "save", pace_words(source) + [mark]), orders),
         Step(rest, later, change=change),
     ]
-    return files, steps
+    return Drawing(files, steps)
 
 
-def tool_trial(source: random.Random) -> Tuple[Dict[str, Entry], List[Step]]:
+def tool_trial(source: random.Random) -> Drawing:
     """One of the commands on one call."""
     call, command = source.choice((7, 4096)), source.choice(("relay", "decode", "encode", "frames"))
     periods = source.randrange(40)
@@ -421,10 +456,10 @@ def tool_trial(source: random.Random) -> Tuple[Dict[str, Entry], List[Step]]:
         f"{call}.up": up,
         f"{call}.pcm": exchange_line(source, Law.A, periods),
     }
-    return files, [Step(words, b"")]
+    return Drawing(files, [Step(words, b"")])
 
 
-def slots_trial(source: random.Random) -> Tuple[Dict[str, Entry], List[Step]]:
+def slots_trial(source: random.Random) -> Drawing:
     """A time slot that is cut or put together."""
     call, size = source.choice((1, 4093)), source.choice((0, 3, 40, 160, 1000))
     files: Dict[str, Entry] = {
@@ -432,12 +467,11 @@ def slots_trial(source: random.Random) -> Tuple[Dict[str, Entry], List[Step]]:
         for channel in range(4)
     }
     files[f"{call}.pcm"] = source.randbytes(source.randrange(900))
-    return files, [
-        Step([source.choice(("split", "merge")), str(source.choice((call, call, call, 4094)))], b"")
-    ]
+    words = [source.choice(("split", "merge")), str(source.choice((call, call, call, 4094)))]
+    return Drawing(files, [Step(words, b"")])
 
 
-def follow_trial(source: random.Random) -> Tuple[Dict[str, Entry], List[Step]]:
+def follow_trial(source: random.Random) -> Drawing:
     """A downlink of frames that stand in step, are moved or broken, followed."""
     bits = "1" * source.choice((320, 0, source.randrange(400)))
     for _ in range(source.randrange(60)):
@@ -451,10 +485,10 @@ def follow_trial(source: random.Random) -> Tuple[Dict[str, Entry], List[Step]]:
         )
     octets = octets_of(bits[: len(bits) // 8 * 8])
     want = source.choice((0, 4, 100, 316, 6, 320))
-    return {"9.up": octets}, [Step(["follow", "9", str(want)], b"")]
+    return Drawing({"9.up": octets}, [Step(["follow", "9", str(want)], b"")])
 
 
-def drawn_trial(source: random.Random) -> Tuple[Dict[str, Entry], List[Step]]:
+def drawn_trial(source: random.Random) -> Drawing:
     """A drill or a live drill."""
     calls = source.choice((1, 2, 5, 6))
     numbers = {"seed": source.choice((0, 1, 4_294_967_295, source.getrandbits(32))), "calls": calls}
@@ -467,17 +501,17 @@ def drawn_trial(source: random.Random) -> Tuple[Dict[str, Entry], List[Step]]:
     words = joined(
         source, *source.choice((("live", drawn + live), ("drill", drawn + pace_words(source))))
     )
-    return {}, [Step(words, b"", to_full_device=source.random() < 0.1)]
+    return Drawing({}, [Step(words, b"", to_full_device=source.random() < 0.1)])
 
 
 # Faults
 
 
-def with_fault(
-    source: random.Random, files: Dict[str, Entry], steps: Sequence[Step]
-) -> Tuple[Dict[str, Entry], List[Step]]:
-    """The trial with one or two faults of lines, or with a fault of a stream, or a limit on the size of files."""
+def with_fault(source: random.Random, drawing: Drawing) -> Drawing:
+    """The trial with one or two faults of lines, or with a fault of a stream, or a limit on the
+    size of files."""
     fault = source.choice(("lines", "lines", "lines", "stdin", "stdout", "size", "size"))
+    files, steps = drawing
     changed = dict(files)
     if fault == "lines":
         numbers = sorted({name.split(".")[0] for name in files if name.endswith((".up", ".pcm"))})
@@ -487,26 +521,31 @@ def with_fault(
         limit = source.choice(
             (0, source.randrange(200), source.randrange(3_000), source.randrange(20_000))
         )
-        return changed, [step._replace(most_octets=limit) for step in steps]
-    replaced = {"stdin": {"stdin": None}, "stdout": {"to_full_device": True}}.get(fault, {})
-    last = steps[-1] if fault == "stdin" and steps[-1].change else steps[-1]._replace(**replaced)
-    return changed, [*steps[:-1], last]
+        return Drawing(changed, [step._replace(most_octets=limit) for step in steps])
+    last = steps[-1]
+    if fault == "stdin" and not last.change:
+        last = last._replace(stdin=None)
+    if fault == "stdout":
+        last = last._replace(to_full_device=True)
+    return Drawing(changed, [*steps[:-1], last])
 
 
 def spoil_line(source: random.Random, files: Dict[str, Entry], numbers: Sequence[str]) -> None:
-    """Puts something else into the place of a line's file, or nothing; `numbers` are those of the calls."""
+    """Puts something else into the place of a line's file, or nothing; `numbers` are those of the
+    calls."""
     call, other = source.choice(numbers), source.choice(numbers)
     incoming, outgoing = (
         f"{call}.{source.choice(('up', 'pcm'))}",
         f"{call}.{source.choice(('down', 'out'))}",
     )
+    to_write: Sequence[Entry] = (Folder(), Link(FULL_DEVICE), Link("no/where"), Link(outgoing))
+    to_read: Sequence[Entry] = (
+        *(b"", Folder()),
+        *(Link("nowhere"), Link(incoming), Link(f"{other}.up")),
+    )
     if source.random() < 0.5:
-        files[outgoing] = source.choice(
-            (Folder(), Link(FULL_DEVICE), Link("no/where"), Link(outgoing))
-        )
+        files[outgoing] = source.choice(to_write)
     elif source.random() < 0.4:
         files.pop(incoming, None)
     else:
-        files[incoming] = source.choice(
-            (b"", Folder(), Link("nowhere"), Link(incoming), Link(f"{other}.up"))
-        )
+        files[incoming] = source.choice(to_read)

@@ -38,8 +38,8 @@ PROGRAM = "trau_program"
 FIRST = "x86-64-v2"
 KIND = "x86-64-v3"
 
-# Measured: the disk that a first start takes among the temporary files, and as much again where what it keeps lies on another disk; the
-# memory of one crate's check.
+# Measured: the disk that a first start takes among the temporary files, and as much again where
+# what it keeps lies on another disk; the memory of one crate's check.
 DISK_OF_A_CRATE = 13_000_000
 DISK_OF_THE_PROGRAM = 300_000_000
 MEMORY_OF_A_CHECK = 2_500_000_000
@@ -75,7 +75,8 @@ def needed(top: Path, program: str) -> List[str]:
 
 def free_memory() -> int:
     """The free memory in octets, within the limit of this process's group."""
-    found = 1024 * int(re.search(r"MemAvailable:\s+(\d+)", Path("/proc/meminfo").read_text())[1])
+    kilobytes = re.findall(r"MemAvailable:\s+(\d+)", Path("/proc/meminfo").read_text())
+    found = 1024 * int(kilobytes[0])
     limit, used = number_in("/sys/fs/cgroup/memory.max"), number_in("/sys/fs/cgroup/memory.current")
     return min(found, limit - used) if limit and used else found
 
@@ -89,7 +90,8 @@ def asked_jobs() -> Optional[int]:
 
 
 def jobs() -> int:
-    """How many crates are proved side by side: TRAU_JOBS, or else as many as there are processors and memory for."""
+    """How many crates are proved side by side: TRAU_JOBS, or else as many as there are processors
+    and memory for."""
     return asked_jobs() or max(1, min(processors(), free_memory() // MEMORY_OF_A_CHECK))
 
 
@@ -116,7 +118,8 @@ def kept_by(rt: str) -> Path:
 
 
 def what_is_kept(rt: str) -> Tuple[bool, str]:
-    """Whether the toolchain can keep what it proves, by its own rules, and what is printed about it."""
+    """Whether the toolchain can keep what it proves, by its own rules, and what is printed about
+    it."""
     kept = kept_by(rt)
     try:
         found = kept.lstat()
@@ -138,7 +141,8 @@ def what_is_kept(rt: str) -> Tuple[bool, str]:
 
 
 class Progress:
-    """Shows how many of the crates are done, and the time so far: on a terminal one line that moves, elsewhere a line for each crate."""
+    """Shows how many of the crates are done, and the time so far: on a terminal one line that
+    moves, elsewhere a line for each crate."""
 
     def __init__(
         self, crates: int, stream: TextIO, clock: Callable[[], float] = time.monotonic
@@ -217,18 +221,22 @@ class Toolchain:
         self.log = log
 
     def lines(self, *words: str, **more: str) -> Iterator[str]:
-        """Runs a command, with this added to its environment, and gives its lines as they come; the last one is its status."""
+        """Runs a command, with this added to its environment, and gives its lines as they come; the
+        last one is its status."""
         self.log.write(f"$ {' '.join(words)}\n")
         self.log.flush()
-        how = {
-            "stdin": subprocess.DEVNULL,
-            "stdout": subprocess.PIPE,
-            "stderr": subprocess.STDOUT,
-            "env": {**os.environ, **more},
-        }
-        with subprocess.Popen(words, cwd=self.folder, text=True, errors="replace", **how) as ran:
+        with subprocess.Popen(
+            words,
+            cwd=self.folder,
+            text=True,
+            errors="replace",
+            stdin=subprocess.DEVNULL,
+            stdout=subprocess.PIPE,
+            stderr=subprocess.STDOUT,
+            env={**os.environ, **more},
+        ) as ran:
             try:
-                for line in ran.stdout:
+                for line in ran.stdout or ():
                     self.log.write(line)
                     self.log.flush()
                     yield line.rstrip("\n")
@@ -240,11 +248,13 @@ class Toolchain:
 
 def functions_of(line: str) -> int:
     """How many functions a check proved, by its last line."""
-    return int(re.search(r"functions=(\d+)|$", line)[1] or 0)
+    found = re.search(r"functions=(\d+)", line)
+    return int(found[1]) if found else 0
 
 
 class Crates:
-    """Reads the output of `rt ci`: for each crate, at its end, `== NAME`, then the output of its check, and its verdict."""
+    """Reads the output of `rt ci`: for each crate, at its end, `== NAME`, then the output of its
+    check, and its verdict."""
 
     UNPROVED = re.compile(r"^\w+ \S+: (not proved|no proof)|^error|^rt: \w+ NOT PROVED$")
     PASSED_ON = re.compile(
@@ -277,8 +287,9 @@ class Crates:
 
 
 def prove(rt: Toolchain, progress: Progress, at_once: Optional[int]) -> bool:
-    """Proves all crates, and builds and runs the program: `at_once` crates side by side, or as many as `rt` chooses. If a check was killed,
-    likely because memory ran out, it goes on with one crate at a time."""
+    """Proves all crates, and builds and runs the program: `at_once` crates side by side, or as many
+    as `rt` chooses. If a check was killed, likely because memory ran out, it goes on with one crate
+    at a time."""
     crates, status = Crates(progress), ""
     for line in rt.lines("rt", "ci", **({"RT_JOBS": str(at_once)} if at_once else {})):
         crates.read(line)
@@ -315,7 +326,8 @@ def build_for(rt: Toolchain, progress: Progress, program: str) -> bool:
 
 
 def copy_crates(top: Path, crates: Sequence[str], to: Path) -> None:
-    """Copies the sources of these crates as a repository of its own, without must-fail edits and other crates."""
+    """Copies the sources of these crates as a repository of its own, without must-fail edits and
+    other crates."""
     lines = read_file(top / "crates.txt").decode().splitlines()
     names = [(line, line.partition("#")[0].partition(":")[0].split()) for line in lines]
     (to / ".git").mkdir(parents=True)
@@ -373,14 +385,20 @@ def room() -> Iterator[Path]:
 
 def ask_script(top: Path, **words: str) -> Tuple[int, str]:
     """The status and the answer of the script `trau` to a question in its environment."""
-    how = {"stdin": subprocess.DEVNULL, "stdout": subprocess.PIPE, "text": True}
     # (Another program, which TRAU_PROGRAM names, is none of this folder's.)
-    ran = subprocess.run([top / "trau"], env={**os.environ, "TRAU_PROGRAM": "", **words}, **how)
+    ran = subprocess.run(
+        [top / "trau"],
+        env={**os.environ, "TRAU_PROGRAM": "", **words},
+        stdin=subprocess.DEVNULL,
+        stdout=subprocess.PIPE,
+        text=True,
+    )
     return ran.returncode, ran.stdout.strip()
 
 
 def wait_for_others(held: TextIO, top: Path, kinds: Sequence[str]) -> bool:
-    """Takes the lock of starts, and returns whether another start that held it has built the program for these kinds."""
+    """Takes the lock of starts, and returns whether another start that held it has built the
+    program for these kinds."""
     try:
         fcntl.flock(held, fcntl.LOCK_EX | fcntl.LOCK_NB)
         return False
@@ -411,7 +429,8 @@ def show_failure(log: Path) -> int:
 def build_programs(
     rt: Toolchain, program: str, kinds: Sequence[str], progress: Progress
 ) -> List[str]:
-    """Proves and builds the program for these kinds. Returns the kinds that were built: FIRST, if KIND alone was asked for and failed."""
+    """Proves and builds the program for these kinds. Returns the kinds that were built: FIRST, if
+    KIND alone was asked for and failed."""
     progress.at("reading all sources")
     with contextlib.nullcontext() if FIRST in kinds else without(program, rt.folder):
         if not prove(rt, progress, asked_jobs()):
@@ -513,7 +532,8 @@ def main(words: Sequence[str]) -> int:
     asked = parser.parse_args(words)
     for number in (signal.SIGTERM, signal.SIGHUP):
         signal.signal(number, stop)
-    top, kinds, status = asked.top.resolve(), (FIRST, KIND), 0
+    top, status = asked.top.resolve(), 0
+    kinds: Sequence[str] = (FIRST, KIND)
     if not asked.both:
         status, *kinds = ask_script(top, TRAU_KINDS="ask")
     try:

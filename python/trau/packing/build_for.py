@@ -27,7 +27,7 @@ def toolchain() -> ModuleType:
     if not path:
         raise Refusal("the Rattle toolchain's command rt isn't on the path")
     loader = importlib.machinery.SourceFileLoader("toolchain_rt", os.path.realpath(path))
-    made = importlib.util.module_from_spec(importlib.util.spec_from_loader(loader.name, loader))
+    made = importlib.util.module_from_spec(importlib.machinery.ModuleSpec(loader.name, loader))
     loader.exec_module(made)
     return made
 

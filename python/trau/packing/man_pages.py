@@ -32,9 +32,10 @@ def commands_of(text: str) -> List[str]:
 
 
 def purpose_of(text: str) -> str:
-    """The first sentence after the usage, as the head of a man page has it: without a capital and a full stop."""
+    """The first sentence after the usage, as the head of a man page has it: without a capital and a
+    full stop."""
     said = " ".join(text.split("\n\n")[1].split())
-    sentence = re.match(r"(.*?)(?:[.;:] |\.$|, (?:while|line by line)|$)", said)[1]
+    sentence, *_ = re.split(r"[.;:] |\.$|, (?:while|line by line)", said, 1)
     return sentence[0].lower() + sentence[1:]
 
 

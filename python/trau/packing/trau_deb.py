@@ -1,7 +1,9 @@
-"""Debian packages of the files that a tarball has, made by dpkg-deb: `trau`, and of the C library `libtrau-fr1` and `libtrau-fr-dev`.
+"""Debian packages of the files that a tarball has, made by dpkg-deb: `trau`, and of the C library
+`libtrau-fr1` and `libtrau-fr-dev`.
 
-What runs lies below /usr/lib/trau, with links in /usr/bin; documents lie below /usr/share/doc/trau. The C library lies where the
-system's loader and compilers look for it, and libgsm's interface in a folder of its own beside it, so that no program takes it unasked.
+What runs lies below /usr/lib/trau, with links in /usr/bin; documents lie below /usr/share/doc/trau.
+The C library lies where the system's loader and compilers look for it, and libgsm's interface in a
+folder of its own beside it, so that no program takes it unasked.
 """
 
 import gzip
@@ -29,8 +31,8 @@ MACHINES = {"x86_64": "amd64", "aarch64": "arm64"}
 LIBRARIES = f"usr/lib/{os.uname().machine}-linux-gnu"
 BUILT = "clib/out/"
 
-# The first lines of tools: in the repository, in a tarball and in Debian's package. A packed tool keeps nothing compiled: it would lie
-# among the package's files, and stay when they are removed.
+# The first lines of tools: in the repository, in a tarball and in Debian's package. A packed tool
+# keeps nothing compiled: it would lie among the package's files, and stay when they are removed.
 PYTHON = b"#!/usr/bin/env python3\n"
 PACKED_PYTHON = b"#!/usr/bin/env -S python3 -B\n"
 SYSTEMS_PYTHON = b"#!/usr/bin/python3 -B\n"
@@ -105,7 +107,8 @@ SHLIBS = "libtrau_fr 1 libtrau-fr1 (>= {version})\n"
 
 
 class Package(NamedTuple):
-    """A package: its name, what its control file says, its files and links by their paths, and further files for dpkg."""
+    """A package: its name, what its control file says, its files and links by their paths, and
+    further files for dpkg."""
 
     name: str
     fields: str
@@ -182,7 +185,8 @@ def common(name: str, author: str, year: str) -> Dict[str, bytes]:
 
 
 def links(found: Dict[str, bytes]) -> Dict[str, str]:
-    """The links of the package, by their paths: the commands, and the documents beside the scripts."""
+    """The links of the package, by their paths: the commands, and the documents beside the
+    scripts."""
     pages = (Path(name).name[: -len(".1.gz")] for name in found if name.endswith(".1.gz"))
     others = {"trau": "trau", "trau-gateway": "gateway/gateway.py"}
     commands = {
@@ -215,11 +219,8 @@ def symbols(header: str, version: str) -> str:
 def shared_library(files: Dict[str, bytes], version: str) -> Package:
     """The package of the shared library, and of libgsm's interface beside it."""
     shared = re.compile(r"lib/(.*\.so\.1)")
-    found = {
-        f"{LIBRARIES}/{shared.fullmatch(name)[1]}": content
-        for name, content in files.items()
-        if shared.fullmatch(name)
-    }
+    matches = ((shared.fullmatch(name), content) for name, content in files.items())
+    found = {f"{LIBRARIES}/{match[1]}": content for match, content in matches if match}
     header = files["include/trau_fr.h"].decode()
     control = {
         "triggers": TRIGGERS,
@@ -263,6 +264,28 @@ def lay(root: Path, files: Dict[str, bytes], links: Dict[str, str]) -> None:
         (root / name).symlink_to(target)
 
 
+def built(root: Path, made: Path, seconds: int) -> bytes:
+    """The octets of the package that dpkg-deb makes of a folder, all of whose files get this
+    date."""
+    for path in (root, *root.rglob("*")):
+        if path.is_dir():
+            path.chmod(0o755)
+        os.utime(path, (seconds, seconds), follow_symlinks=False)
+    try:
+        subprocess.run(
+            ["dpkg-deb", "--root-owner-group", "-Zxz", "--build", str(root), str(made)],
+            check=True,
+            capture_output=True,
+            text=True,
+            env={**os.environ, "SOURCE_DATE_EPOCH": str(seconds)},
+        )
+    except OSError:
+        raise Refusal("dpkg-deb isn't on the path; it is part of Debian's package dpkg") from None
+    except subprocess.CalledProcessError as ended:
+        raise Refusal(f"dpkg-deb: {ended.stderr.strip()}") from None
+    return made.read_bytes()
+
+
 def packed(package: Package, author: str, seconds: int) -> Tuple[str, bytes]:
     """The name and the octets of a package, all of whose files have this date."""
     machine = MACHINES.get(os.uname().machine, os.uname().machine)
@@ -285,39 +308,21 @@ def packed(package: Package, author: str, seconds: int) -> Tuple[str, bytes]:
         for name, text in {"control": control, "md5sums": sums, **package.control}.items():
             (root / "DEBIAN" / name).write_text(text)
             (root / "DEBIAN" / name).chmod(0o644)
-        for path in (root, *root.rglob("*")):
-            if path.is_dir():
-                path.chmod(0o755)
-            os.utime(path, (seconds, seconds), follow_symlinks=False)
-        made = Path(folder) / "made.deb"
-        words = ["dpkg-deb", "--root-owner-group", "-Zxz", "--build", str(root), str(made)]
-        try:
-            subprocess.run(
-                words,
-                check=True,
-                capture_output=True,
-                text=True,
-                env={**os.environ, "SOURCE_DATE_EPOCH": str(seconds)},
-            )
-        except OSError:
-            raise Refusal(
-                "dpkg-deb isn't on the path; it is part of Debian's package dpkg"
-            ) from None
-        except subprocess.CalledProcessError as ended:
-            raise Refusal(f"dpkg-deb: {ended.stderr.strip()}") from None
-        return f"{package.name}_{version}_{machine}.deb", made.read_bytes()
+        octets = built(root, Path(folder) / "made.deb", seconds)
+    return f"{package.name}_{version}_{machine}.deb", octets
 
 
 def packages(files: Dict[str, bytes], author: str, seconds: int) -> Dict[str, bytes]:
-    """The packages of these files by their names: the program's, and those of the C library where it is among the files."""
+    """The packages of these files by their names: the program's, and those of the C library where
+    it is among the files."""
     version = versions()[0][0]
     made = [program(files)]
-    built = {
+    library = {
         name[len(BUILT) :]: content for name, content in files.items() if name.startswith(BUILT)
     }
-    if built:
+    if library:
         made += [
-            shared_library(built, version),
-            development(built, files["docs/LIBRARY.md"], version),
+            shared_library(library, version),
+            development(library, files["docs/LIBRARY.md"], version),
         ]
     return dict(packed(package, author, seconds) for package in made)

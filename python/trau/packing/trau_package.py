@@ -28,7 +28,8 @@ from trau.command_line.files import read_file, write_file
 
 TOP = Path(__file__).resolve().parents[3]
 PROGRAM = TOP / "crates" / "trau_program" / "out" / "trau_program"
-# The kinds of processor that a program is packed for; the name of the second one's ends in its kind.
+# The kinds of processor that a program is packed for; the name of the second one's ends in its
+# kind.
 FIRST, KIND = "x86-64-v2", "x86-64-v3"
 
 # What clib/build makes, and the script that starts programs of libgsm on it.
@@ -48,8 +49,9 @@ LIBRARY_FILES = (
 SCRIPTS = ("trau", "demo")
 TOOLS = ("lines.py", "orders.py", "report.py", "shard.py", "timeline.py", "watch.py")
 GATEWAY = "gateway.py"
-# What is packed of folders: the files that git knows there and that have such names, and those of them that run. Of tools/ it isn't what proves,
-# builds and packs; tests/data has recordings that the commands in the documents take.
+# What is packed of folders: the files that git knows there and that have such names, and those of
+# them that run. Of tools/ it isn't what proves, builds and packs; tests/data has recordings that
+# the commands in the documents take.
 FOLDERS = (
     ("tools", r"(?!build|trau_)\w+\.(py|txt|awk)", TOOLS),
     ("python/trau", r"(?!packing/|model/).*\.(py|js)", ()),
@@ -67,7 +69,8 @@ class PackagedFile(NamedTuple):
 
 
 class State(NamedTuple):
-    """What is packed: the commit's short name and date, and the seconds since 1970 that all files have."""
+    """What is packed: the commit's short name and date, and the seconds since 1970 that all files
+    have."""
 
     commit: str
     date: str
@@ -90,7 +93,8 @@ def git(*words: str) -> str:
 
 
 def state_of_repository() -> State:
-    """The state that is packed. Files that git doesn't know aren't packed, and a changed file shows in the name."""
+    """The state that is packed. Files that git doesn't know aren't packed, and a changed file shows
+    in the name."""
     commit, date, seconds = git("log", "-1", "--format=%h %cs %ct").split()
     changed = "-changed" if git("status", "--porcelain", "--untracked-files=no") else ""
     return State(commit + changed, date, int(seconds))
@@ -102,8 +106,9 @@ def is_built(kind: str) -> bool:
 
 
 def programs() -> Dict[str, bytes]:
-    """The programs by their names in the package: the one for x86-64-v2, which any machine runs, and the one for the other kind. Unless
-    TRAU_PROGRAM names one, tools/build.py proves and builds both, if one of them isn't built."""
+    """The programs by their names in the package: the one for x86-64-v2, which any machine runs,
+    and the one for the other kind. Unless TRAU_PROGRAM names one, tools/build.py proves and builds
+    both, if one of them isn't built."""
     named = os.environ.get("TRAU_PROGRAM")
     if not named and not (is_built(FIRST) and is_built(KIND)):
         subprocess.run(
@@ -127,8 +132,8 @@ def programs() -> Dict[str, bytes]:
 
 def is_given() -> bool:
     """Whether TRAU_PROGRAM names another program than the one that is proved and built here."""
-    given = os.environ.get("TRAU_PROGRAM")
-    return bool(given) and Path(given).resolve() != PROGRAM.resolve()
+    given = os.environ.get("TRAU_PROGRAM", "")
+    return given != "" and Path(given).resolve() != PROGRAM.resolve()
 
 
 def library_is_built() -> bool:
@@ -142,7 +147,8 @@ def library_is_built() -> bool:
 
 
 def proved_library() -> Dict[str, bytes]:
-    """The files of the C library. If it isn't built, clib/build proves and builds it, or it is left out."""
+    """The files of the C library. If it isn't built, clib/build proves and builds it, or it is left
+    out."""
     folder = Path(os.environ.get("TRAU_CLIB") or LIBRARY)
     if folder == LIBRARY and not library_is_built():
         if is_given() or not shutil.which(os.environ.get("CC", "cc")):
@@ -153,7 +159,8 @@ def proved_library() -> Dict[str, bytes]:
 
 
 def origin() -> str:
-    """The kit that everything was proved with. Whether a given program or library was proved isn't known here."""
+    """The kit that everything was proved with. Whether a given program or library was proved isn't
+    known here."""
     if is_given():
         return "with a program that TRAU_PROGRAM named"
     if os.environ.get("TRAU_CLIB"):
@@ -178,7 +185,8 @@ def files_below(folder: Path) -> Dict[str, Path]:
 
 
 def documents() -> Dict[str, Path]:
-    """README.md and all files that its links lead to, directly or through other documents: documents, pictures and sources."""
+    """README.md and all files that its links lead to, directly or through other documents:
+    documents, pictures and sources."""
     found: Dict[str, Path] = {}
     waiting = [TOP / "README.md"]
     while waiting:
@@ -229,15 +237,16 @@ def members(state: State, library: Dict[str, bytes]) -> Dict[str, PackagedFile]:
 
 def tarball(state: State, found: Dict[str, PackagedFile]) -> bytes:
     """The octets of the package."""
-    packed = io.BytesIO()
-    with gzip.GzipFile(fileobj=packed, mode="wb", mtime=state.seconds, filename="") as zipped:
-        with tarfile.open(fileobj=zipped, mode="w", format=tarfile.USTAR_FORMAT) as tar:
-            for name, member in sorted(found.items()):
-                info = tarfile.TarInfo(f"{state.name()}/{name}")
-                info.size, info.mtime = len(member.content), state.seconds
-                info.mode = 0o755 if member.runs else 0o644
-                tar.addfile(info, io.BytesIO(member.content))
-    return packed.getvalue()
+    packed, zipped = io.BytesIO(), io.BytesIO()
+    with tarfile.open(fileobj=packed, mode="w", format=tarfile.USTAR_FORMAT) as tar:
+        for name, member in sorted(found.items()):
+            info = tarfile.TarInfo(f"{state.name()}/{name}")
+            info.size, info.mtime = len(member.content), state.seconds
+            info.mode = 0o755 if member.runs else 0o644
+            tar.addfile(info, io.BytesIO(member.content))
+    with gzip.GzipFile(fileobj=zipped, mode="wb", mtime=state.seconds, filename="") as file:
+        file.write(packed.getvalue())
+    return zipped.getvalue()
 
 
 @tool("package")

@@ -8,7 +8,7 @@ The documents say the same at greater length; the tests of the tools hold both t
 
 import sys
 import textwrap
-from typing import Iterable, List, NamedTuple, Sequence, Tuple
+from typing import Dict, Iterable, List, NamedTuple, Sequence, Tuple
 
 from trau.rules import profile
 from trau.command_line.words import Words
@@ -20,8 +20,8 @@ PURPOSE = "the GSM transcoder and rate adaptor unit, on recorded lines"
 
 
 class Command(NamedTuple):
-    """A command, with its words behind the name, the statuses that it ends with, what it does, with the lines that it takes and writes,
-    and the greatest number of a call that it takes."""
+    """A command, with its words behind the name, the statuses that it ends with, what it does, with
+    the lines that it takes and writes, and the greatest number of a call that it takes."""
 
     name: str
     words: str
@@ -31,12 +31,10 @@ class Command(NamedTuple):
 
 
 class Option(NamedTuple):
-    """An option of `run`, `save`, `resume`, `drill` or `live`, with the range of its value, and its value where it isn't given."""
+    """An option of `run`, `save`, `resume`, `drill` or `live`, with the range of its value."""
 
     name: str
-    least: int
-    most: int
-    default: int
+    values: profile.OptionRange
     means: str
 
 
@@ -153,14 +151,14 @@ MEANINGS = {
 }
 OPTIONS_OF = {
     command: tuple(
-        Option(f"--{name}", *profile.OPTIONS[command][name], means)
+        Option(f"--{name}", profile.OPTIONS[command][name], means)
         for name, means in meanings.items()
     )
     for command, meanings in MEANINGS.items()
 }
 
 # The commands that have these options too.
-ALSO = {"run": ("save", "resume")}
+ALSO: Dict[str, Tuple[str, ...]] = {"run": ("save", "resume")}
 
 ORDERS = (
     ("S open C", "the call begins"),
@@ -249,10 +247,15 @@ NOTE_ON_PROGRAMS = (
 
 def folded(words: str, indent: str, width: int = 79) -> List[str]:
     """The words in lines that aren't longer than the width, each behind the indent."""
-    spared = {"break_long_words": False, "break_on_hyphens": False}
-    return textwrap.wrap(
-        " ".join(words.split()), width, initial_indent=indent, subsequent_indent=indent, **spared
-    ) or [indent]
+    lines = textwrap.wrap(
+        " ".join(words.split()),
+        width,
+        initial_indent=indent,
+        subsequent_indent=indent,
+        break_long_words=False,
+        break_on_hyphens=False,
+    )
+    return lines or [indent]
 
 
 def table(rows: Iterable[Tuple[str, str]]) -> List[str]:
@@ -268,19 +271,17 @@ def table(rows: Iterable[Tuple[str, str]]) -> List[str]:
 
 def rows_of(options: Iterable[Option]) -> List[Tuple[str, str]]:
     """Options, and what they mean with the ranges of their values."""
-    ranges = (
-        (
-            option,
-            f"{grouped(option.least)} to {grouped(option.most)}, else {grouped(option.default)}",
-        )
-        for option in options
-    )
-    return [(f"{option.name} N", f"{option.means} ({of_it})") for option, of_it in ranges]
+
+    def said(values: profile.OptionRange) -> str:
+        least, most, default = map(grouped, (values.least, values.most, values.default))
+        return f"{least} to {most}, else {default}"
+
+    return [(f"{option.name} N", f"{option.means} ({said(option.values)})") for option in options]
 
 
 def with_its_options(command: str, joined: str) -> str:
     """The commands that have the same options, the last one joined by this."""
-    *names, last = (command, *ALSO.get(command, ()))
+    *names, last = [command, *ALSO.get(command, ())]
     return ", ".join(names) + joined + last if names else last
 
 
@@ -344,16 +345,18 @@ def page(command: Command) -> str:
 
 
 def pages_text() -> str:
-    """The pages of all commands, each behind a line with the command's name, as the script `trau` looks for them."""
+    """The pages of all commands, each behind a line with the command's name, as the script `trau`
+    looks for them."""
     return "".join(f"== {command.name}\n{page(command)}" for command in COMMANDS)
 
 
 def grammar_text() -> str:
-    """The values of each command and their ranges, as the script `trau` reads them to say which word is wrong."""
+    """The values of each command and their ranges, as the script `trau` reads them to say which
+    word is wrong."""
     lines = []
     for command in COMMANDS:
         lines += [
-            f"{command.name} {option.name} {option.least} {option.most}"
+            f"{command.name} {option.name} {option.values.least} {option.values.most}"
             for option in options_of(command)
         ]
         if CALL in command.words.split():
@@ -380,31 +383,31 @@ def paragraphs(rows: Iterable[Tuple[str, str]]) -> List[str]:
     ]
 
 
+def synopsis() -> List[str]:
+    """The commands with their words, as the man page has them."""
+    lines = [".SH SYNOPSIS"]
+    for number, command in enumerate(COMMANDS):
+        words = (
+            "".join(f" [{option.name} N]" for option in OPTIONS_OF.get(command.name, ()))
+            or f" {command.words}"
+        )
+        orders = " <ORDERS" if command.name == "run" else ""
+        lines += [".br"] * (number > 0) + [f".B {NAME} {command.name}{escaped(words + orders)}"]
+    return lines
+
+
 def man_page(version: str, date: str) -> str:
     """The man page of this version."""
     lines = [
         f'.TH TRAU 1 "{escaped(date)}" "{escaped(version)}" "User Commands"',
         ".SH NAME",
         f"{NAME} \\- {escaped(PURPOSE)}",
-        ".SH SYNOPSIS",
+        *synopsis(),
     ]
-    for number, command in enumerate(COMMANDS):
-        options = (
-            "".join(f" [{option.name} N]" for option in OPTIONS_OF.get(command.name, ()))
-            or f" {command.words}"
-        )
-        orders = " <ORDERS" if command.name == "run" else ""
-        lines += [".br"] * (number > 0) + [f".B {NAME} {command.name}{escaped(options + orders)}"]
     lines += [".SH COMMANDS", escaped(NOTE_ON_FILES)]
     lines += paragraphs((f"{command.name} {command.words}", command.does) for command in COMMANDS)
-    lines += [
-        ".PP",
-        escaped(NOTE_ON_HELP),
-        ".PP",
-        escaped(NOTE_ON_LOCK),
-        ".PP",
-        escaped(NOTE_ON_PROGRAMS),
-    ]
+    for note in (NOTE_ON_HELP, NOTE_ON_LOCK, NOTE_ON_PROGRAMS):
+        lines += [".PP", escaped(note)]
     for name, options in OPTIONS_OF.items():
         lines += [
             f".SH OPTIONS OF {with_its_options(name, ' AND ').upper()}",
@@ -460,7 +463,8 @@ CALLS_WITH = """    {names})
 
 
 def completion() -> str:
-    """What completes the words of a command line in bash: commands, options, and the calls that have lines in this folder."""
+    """What completes the words of a command line in bash: commands, options, and the calls that
+    have lines in this folder."""
     of_up = "|".join(command.name for command in COMMANDS if "C.up" in command.does)
     of_pcm = "|".join(command.name for command in COMMANDS if "C.pcm" in command.does)
     return COMPLETION.format(

@@ -41,7 +41,7 @@ class DownlinkLook(Look):
     has its words and colour."""
 
     SPEECH = UplinkLook.SPEECH.value
-    SILENCE = UplinkLook.VALID_SID.value
+    VALID_SID = UplinkLook.VALID_SID.value
     IDLE = UplinkLook.IDLE.value
     HANDED = ("handed over in a bridge", "#009E73")
     OTHER = UplinkLook.OTHER.value

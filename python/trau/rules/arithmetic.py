@@ -1,6 +1,7 @@
 """The operations on numbers of 16 and 32 bits of GSM 06.10 section 4.
 
-Numbers are Python's whole numbers. `>>` is the floor of a division by a power of two, also of numbers below 0.
+Numbers are Python's whole numbers. `>>` is the floor of a division by a power of two, also of
+numbers below 0.
 """
 
 from typing import List
@@ -37,12 +38,14 @@ def sub(a: int, b: int) -> int:
 
 
 def mult(a: int, b: int) -> int:
-    """The product of two fractions of 15 bits, cut (GSM 06.10 section 4, "mult"); -32768 by itself is 32767."""
+    """The product of two fractions of 15 bits, cut (GSM 06.10 section 4, "mult"); -32768 by itself
+    is 32767."""
     return saturate((a * b) >> 15)
 
 
 def mult_r(a: int, b: int) -> int:
-    """The product of two fractions of 15 bits, rounded (GSM 06.10 section 4, "mult_r"); -32768 by itself is 32767."""
+    """The product of two fractions of 15 bits, rounded (GSM 06.10 section 4, "mult_r"); -32768 by
+    itself is 32767."""
     return saturate((a * b + 16384) >> 15)
 
 
@@ -52,14 +55,17 @@ def magnitude(a: int) -> int:
 
 
 def norm(value: int) -> int:
-    """How many shifts to the left bring a number above 0 to 2^30 or more, within 32 bits (GSM 06.10 section 4, "norm")."""
+    """How many shifts to the left bring a number above 0 to 2^30 or more, within 32 bits (GSM 06.10
+    section 4, "norm")."""
     return 31 - value.bit_length()
 
 
 def div(numerator: int, denominator: int) -> int:
-    """The quotient as a fraction of 15 bits, of 0 <= numerator <= denominator (GSM 06.10 section 4, "div").
+    """The quotient as a fraction of 15 bits, of 0 <= numerator <= denominator (GSM 06.10 section 4,
+    "div").
 
-    It is 0 where the numerator is 0, whatever the denominator is, and 32767 where both are one (this project's profile for 0 / 0).
+    It is 0 where the numerator is 0, whatever the denominator is, and 32767 where both are one
+    (this project's profile for 0 / 0).
     """
     if numerator == 0:
         return 0

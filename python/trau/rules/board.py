@@ -1,4 +1,5 @@
-"""The rules of the board: which orders are accepted, and which calls and bridges there are (docs/OPERATORS.md).
+"""The rules of the board: which orders are accepted, and which calls and bridges there are
+(docs/OPERATORS.md).
 
 Every rule here is this project's profile. Periods are those of the run.
 """
@@ -8,11 +9,13 @@ from dataclasses import dataclass
 from typing import Callable, Dict, List, Optional, Tuple
 
 from trau.rules.orders import Order
+from trau.rules.profile import MOST_PERIODS
 from trau.rules.report import Reply
 
 
 class OrderRefusal(enum.IntEnum):
-    """Why an order is refused; the value is the number in the report (docs/OPERATORS.md, "Refusals")."""
+    """Why an order is refused; the value is the number in the report (docs/OPERATORS.md,
+    "Refusals")."""
 
     ALREADY_OPEN = 1
     NOT_OPEN = 2
@@ -25,11 +28,12 @@ class OrderRefusal(enum.IntEnum):
 
 @dataclass
 class Bridge:
-    """A bridge: its calls as its order named them, its first period, and the one at whose start an order ended it, if any did."""
+    """A bridge: its calls as its order named them, its first period, and the one at whose start an
+    order ended it, which is past all runs where none did."""
 
-    calls: Tuple[int, ...]
+    calls: Tuple[int, int]
     start: int
-    end: Optional[int] = None
+    end: int = MOST_PERIODS
 
     def partner_of(self, call: int) -> int:
         """The other call (docs/OPERATORS.md, "Bridges")."""
@@ -37,8 +41,9 @@ class Bridge:
 
 
 class Board:
-    """What is known as orders are executed, one after another. `end_of` has the period at which the lines of a call end, by the order that
-    opens it; None where nobody knows (docs/OPERATORS.md, "When an order takes effect")."""
+    """What is known as orders are executed, one after another. `end_of` has the period at which the
+    lines of a call end, by the order that opens it; None where nobody knows (docs/OPERATORS.md,
+    "When an order takes effect")."""
 
     def __init__(self, end_of: Callable[[Order], Optional[int]]) -> None:
         self.end_of = end_of
@@ -58,7 +63,8 @@ class Board:
         return reply
 
     def end_calls(self, stamp: int) -> None:
-        """Ends the calls whose natural end is below this stamp; with a call ends its bridge (docs/OPERATORS.md, "Ends and their causes")."""
+        """Ends the calls whose natural end is below this stamp; with a call ends its bridge
+        (docs/OPERATORS.md, "Ends and their causes")."""
         for call in [call for call, end in self.ends.items() if end is not None and end < stamp]:
             del self.ends[call]
             self.end_bridge(call)
@@ -71,7 +77,8 @@ class Board:
         return bridge
 
     def reply(self, order: Order) -> Reply:
-        """The first reason in the stated order for which an order is refused, or none (docs/OPERATORS.md, "Refusals")."""
+        """The first reason in the stated order for which an order is refused, or none
+        (docs/OPERATORS.md, "Refusals")."""
         first = order.calls[0]
         if order.verb == "open":
             if first in self.ends:
@@ -87,7 +94,8 @@ class Board:
         return self.reply_to_bridge(order) if order.verb == "bridge" else Reply()
 
     def reply_to_bridge(self, order: Order) -> Reply:
-        """Why a bridge of open calls is refused: a call is bridged, or its bridge was ended in this very period (docs/OPERATORS.md, "Refusals")."""
+        """Why a bridge of open calls is refused: a call is bridged, or its bridge was ended in this
+        very period (docs/OPERATORS.md, "Refusals")."""
         for call in order.calls:
             if call in self.bridge_of:
                 return Reply(OrderRefusal.BRIDGED, call, self.bridge_of[call].partner_of(call))
@@ -103,14 +111,14 @@ class Board:
             self.opened[first] = order
             self.ends[first] = self.end_of(order)
         elif order.verb == "bridge":
-            bridge = Bridge(order.calls, order.stamp)
+            bridge = Bridge((first, order.calls[1]), order.stamp)
             self.bridges.append(bridge)
             self.bridge_of.update(dict.fromkeys(order.calls, bridge))
         elif order.verb in ("unbridge", "close"):
-            bridge = self.end_bridge(first)
-            if bridge:
-                bridge.end = order.stamp
-                self.ended.update(dict.fromkeys(bridge.calls, bridge))
+            ended = self.end_bridge(first)
+            if ended:
+                ended.end = order.stamp
+                self.ended.update(dict.fromkeys(ended.calls, ended))
             if order.verb == "close":
                 del self.ends[first]
                 self.closed[first] = order.stamp

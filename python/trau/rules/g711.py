@@ -1,4 +1,5 @@
-"""A-law and mu-law: octets of the lines from and to the exchange, and samples (ITU-T G.711, docs/FILES.md).
+"""A-law and mu-law: octets of the lines from and to the exchange, and samples (ITU-T G.711,
+docs/FILES.md).
 
 Samples are words of 16 bits, the 13 bits of A-law and the 14 bits of mu-law at their upper end.
 """
@@ -7,13 +8,14 @@ from __future__ import annotations
 
 import enum
 from functools import lru_cache
-from typing import Iterable, List, Tuple
+from typing import Iterable, List, NamedTuple
 
 from trau.rules import profile
 
 
 class Law(enum.Enum):
-    """The law of a call's lines from and to the exchange; the value of mu-law is its word in an order."""
+    """The law of a call's lines from and to the exchange; the value of mu-law is its word in an
+    order."""
 
     A = "alaw"
     MU = "mulaw"
@@ -27,11 +29,13 @@ class Law(enum.Enum):
         return "A-law" if self is Law.A else "mu-law"
 
     def idle(self) -> int:
-        """The octet of an idle line (this project's profile): of A-law the least positive one, of mu-law the positive zero."""
+        """The octet of an idle line (this project's profile): of A-law the least positive one, of
+        mu-law the positive zero."""
         return profile.IDLE_A if self is Law.A else profile.IDLE_MU
 
     def table_to(self, other: Law) -> bytes:
-        """The octet of the other law for each octet of this one, by the sample that it stands for; of the same law each itself."""
+        """The octet of the other law for each octet of this one, by the sample that it stands for;
+        of the same law each itself."""
         return bytes(range(256)) if other is self else compress_all(other, samples_by_octet(self))
 
 
@@ -41,15 +45,32 @@ MAGNITUDES = (
 STEPS = [(segment, step) for segment in range(8) for step in range(16)]
 
 
-def interval(law: Law, segment: int, step: int) -> Tuple[int, int]:
-    """The least magnitude of an interval and its width (G.711, tables 1 and 2); the first of mu-law begins below 0."""
+class Interval(NamedTuple):
+    """The magnitudes that have one code: the least, and how many they are."""
+
+    least: int
+    width: int
+
+    def middle(self) -> int:
+        """The magnitude that the code stands for."""
+        return self.least + self.width // 2
+
+    def end(self) -> int:
+        """The least magnitude above the interval."""
+        return self.least + self.width
+
+
+def interval(law: Law, segment: int, step: int) -> Interval:
+    """An interval of a law (G.711, tables 1 and 2); the first of mu-law begins below 0."""
     if law is Law.A and segment == 0:
-        return 16 * step, 16
-    return ((16 + step) << (segment + 3)) - (0 if law is Law.A else 132), 1 << (segment + 3)
+        return Interval(16 * step, 16)
+    least = ((16 + step) << (segment + 3)) - (0 if law is Law.A else 132)
+    return Interval(least, 1 << (segment + 3))
 
 
 def octet(law: Law, is_negative: bool, code: int) -> int:
-    """The octet of a sign and of seven bits of segment and step, inverted as the line has it (G.711)."""
+    """The octet of a sign and of seven bits of segment and step, inverted as the line has it
+    (G.711)."""
     if law is Law.A:
         return (code | (0 if is_negative else 0x80)) ^ 0x55
     return (code | (0x80 if is_negative else 0)) ^ 0xFF
@@ -60,9 +81,9 @@ def samples_by_octet(law: Law) -> List[int]:
     """What each of the 256 octets stands for: the middle of its interval, with its sign (G.711)."""
     samples = [0] * 256
     for code, (segment, step) in enumerate(STEPS):
-        least, width = interval(law, segment, step)
-        samples[octet(law, False, code)] = least + width // 2
-        samples[octet(law, True, code)] = -(least + width // 2)
+        middle = interval(law, segment, step).middle()
+        samples[octet(law, False, code)] = middle
+        samples[octet(law, True, code)] = -middle
     return samples
 
 
@@ -71,9 +92,8 @@ def octets_by_sample(law: Law) -> bytes:
     """The octet of each sample, by the sample modulo 65,536 (G.711).
 
     The magnitude of a sample x below 0 is -1 - x under both laws (this project's profile)."""
-    ends = [sum(interval(law, segment, step)) for segment, step in STEPS[:-1]] + [
-        MAGNITUDES
-    ]  # the last interval has all above it
+    # The last interval has all above it.
+    ends = [interval(law, segment, step).end() for segment, step in STEPS[:-1]] + [MAGNITUDES]
     codes = [
         code for code, (start, end) in enumerate(zip([0] + ends, ends)) for _ in range(start, end)
     ]

@@ -7,12 +7,13 @@ from trau.rules.profile import FRAME_OCTETS, PCM_OCTETS
 # The sides of a call: the endings of the lines' files, and their words in texts (docs/FILES.md).
 SIDES = UP, PCM, DOWN, OUT = ("up", "pcm", "down", "out")
 INCOMING, OUTGOING = (UP, PCM), (DOWN, OUT)
+# in a period of 20 ms
 OCTETS_OF_SIDE = {
     UP: FRAME_OCTETS,
     PCM: PCM_OCTETS,
     DOWN: FRAME_OCTETS,
     OUT: PCM_OCTETS,
-}  # in a period of 20 ms
+}
 
 
 def name_of(call: int, side: str) -> str:

@@ -1,11 +1,13 @@
-"""Comfort noise, and the random source that it is drawn from (docs/PROFILE.md, "Comfort noise" and "Random numbers")."""
+"""Comfort noise, and the random source that it is drawn from (docs/PROFILE.md, "Comfort noise" and
+"Random numbers")."""
 
 from trau.rules import profile
 from trau.rules.parameters import Block, Parameters
 
 
 class RandomSource:
-    """The random source of a call, which starts at the call's number (docs/PROFILE.md, "Random numbers")."""
+    """The random source of a call, which starts at the call's number (docs/PROFILE.md, "Random
+    numbers")."""
 
     def __init__(self, start: int) -> None:
         self.value = start
@@ -19,8 +21,8 @@ class RandomSource:
 
 
 def comfort_noise(base: Parameters, source: RandomSource, fall: int = 0) -> Parameters:
-    """Comfort noise that has fallen so often from where it stands: in each block draws of the grid and of thirteen pulses (docs/PROFILE.md, "Comfort
-    noise")."""
+    """Comfort noise that has fallen so often from where it stands: in each block draws of the grid
+    and of thirteen pulses (docs/PROFILE.md, "Comfort noise")."""
 
     def block(lag: int, maximum: int) -> Block:
         grid = source.draw(profile.GRID_VALUES)

@@ -1,14 +1,16 @@
-"""The grammar of orders: text in, orders or the first bad line out (docs/OPERATORS.md, "Orders"; this project's profile)."""
+"""The grammar of orders: text in, orders or the first bad line out (docs/OPERATORS.md, "Orders";
+this project's profile)."""
 
 from typing import List, NamedTuple, Tuple
 
 from trau.rules import profile
 from trau.rules.g711 import Law
-from trau.command_line.words import number
+from trau.rules.numbers import number
 
 
 class Order(NamedTuple):
-    """An order: its line, counted from 1, the period at whose start it takes effect, its name, the calls that it names, and its words."""
+    """An order: its line, counted from 1, the period at whose start it takes effect, its name, the
+    calls that it names, and its words."""
 
     number: int
     stamp: int
@@ -21,11 +23,13 @@ class Order(NamedTuple):
         return f"{self.stamp} {self.words}"
 
     def law(self) -> Law:
-        """The law of the call that it opens: A-law if it names none (docs/OPERATORS.md, "Orders")."""
+        """The law of the call that it opens: A-law if it names none (docs/OPERATORS.md,
+        "Orders")."""
         return Law.MU if self.words.endswith(f" {Law.MU}") else Law.A
 
     def value(self) -> str:
-        """Its last word: the level, or the mode of discontinuous transmission (docs/OPERATORS.md, "Orders")."""
+        """Its last word: the level, or the mode of discontinuous transmission (docs/OPERATORS.md,
+        "Orders")."""
         return self.words.split(" ")[-1]
 
 
@@ -62,14 +66,15 @@ class TooLong(Exception):
 
 
 def lines_of(text: bytes) -> List[bytes]:
-    """The lines of a text, each ended by a line feed that the last one may lack; empty text has none (docs/OPERATORS.md, "Orders")."""
+    """The lines of a text, each ended by a line feed that the last one may lack; empty text has
+    none (docs/OPERATORS.md, "Orders")."""
     lines = text.split(b"\n")
     return lines if lines[-1] else lines[:-1]
 
 
 def orders_of(text: bytes) -> List[Order]:
-    """The orders of a text within the limits; else raises what is wrong with it: its size or its number of lines, or its first bad line
-    (docs/OPERATORS.md, "Orders")."""
+    """The orders of a text within the limits; else raises what is wrong with it: its size or its
+    number of lines, or its first bad line (docs/OPERATORS.md, "Orders")."""
     lines = lines_of(text)
     if len(text) > profile.MOST_ORDER_OCTETS or len(lines) > profile.MOST_ORDERS:
         raise TooLong(len(text), len(lines))
@@ -86,8 +91,9 @@ def orders_of(text: bytes) -> List[Order]:
 
 
 def read_order(place: int, line: str, least_stamp: int = 0) -> Order:
-    """The order of a line: its stamp and its words, one space between each; raises NoOrder if it isn't in the grammar. A stamp below that of the
-    line before makes its own line bad (docs/OPERATORS.md, "Orders")."""
+    """The order of a line: its stamp and its words, one space between each; raises NoOrder if it
+    isn't in the grammar. A stamp below that of the line before makes its own line bad
+    (docs/OPERATORS.md, "Orders")."""
     stamp, *words = line.split(" ")
     form = (
         next((form for form in FORMS.get(words[0], ()) if len(words) == 1 + len(form)), None)
@@ -114,7 +120,8 @@ def call_of(word: str) -> int:
 
 
 def is_value(word: str, form: str) -> bool:
-    """Whether a word is a level, a law, or a mode of discontinuous transmission (docs/OPERATORS.md, "Orders")."""
+    """Whether a word is a level, a law, or a mode of discontinuous transmission (docs/OPERATORS.md,
+    "Orders")."""
     return (
         number(word, 0, profile.MOST_LEVEL) is not None if form == "level" else word in NAMES[form]
     )

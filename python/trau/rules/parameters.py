@@ -1,4 +1,5 @@
-"""The 76 parameters of a full rate frame (GSM 06.10 section 1.7): as D1 to D260 of a TRAU frame, and as the frames of 33 octets of libgsm."""
+"""The 76 parameters of a full rate frame (GSM 06.10 section 1.7): as D1 to D260 of a TRAU frame,
+and as the frames of 33 octets of libgsm."""
 
 from typing import List, NamedTuple, Sequence, Tuple
 
@@ -23,14 +24,16 @@ class Parameters(NamedTuple):
     blocks: Tuple[Block, ...]  # four
 
 
-# The widths of the parameters in the order in which they are sent (GSM 06.10 section 1.7 and table 1.1).
+# The widths of the parameters in the order in which they are sent (GSM 06.10 section 1.7 and table
+# 1.1).
 LARC_WIDTHS = (6, 6, 5, 5, 4, 4, 3, 3)
 BLOCK_WIDTHS = (7, 2, 2, 6) + 13 * (3,)
 WIDTHS = LARC_WIDTHS + 4 * BLOCK_WIDTHS
 
 
 def values_of(parameters: Parameters) -> List[int]:
-    """The 76 values of a frame's parameters in the order in which they are sent (GSM 06.10 section 1.7)."""
+    """The 76 values of a frame's parameters in the order in which they are sent (GSM 06.10 section
+    1.7)."""
     return list(parameters.larc) + [
         v for b in parameters.blocks for v in (b.nc, b.bc, b.mc, b.xmaxc, *b.xmc)
     ]
@@ -38,8 +41,12 @@ def values_of(parameters: Parameters) -> List[int]:
 
 def parameters_of_values(values: Sequence[int]) -> Parameters:
     """The parameters of 76 values in the order in which they are sent (GSM 06.10 section 1.7)."""
-    blocks = [values[start : start + 17] for start in range(8, 76, 17)]
-    return Parameters(tuple(values[:8]), tuple(Block(*v[:4], tuple(v[4:])) for v in blocks))
+
+    def block(start: int) -> Block:
+        nc, bc, mc, xmaxc, *xmc = values[start : start + 17]
+        return Block(nc, bc, mc, xmaxc, tuple(xmc))
+
+    return Parameters(tuple(values[:8]), tuple(map(block, range(8, 76, 17))))
 
 
 def fields_of(data: Bits) -> List[Bits]:
@@ -52,7 +59,8 @@ def fields_of(data: Bits) -> List[Bits]:
 
 
 def bits_of_parameters(parameters: Parameters) -> Bits:
-    """D1 to D260 of a frame's parameters, each with its least significant bit first (docs/FILES.md, "The 260 data bits")."""
+    """D1 to D260 of a frame's parameters, each with its least significant bit first (docs/FILES.md,
+    "The 260 data bits")."""
     return "".join(
         [f"{value:0{width}b}"[::-1] for value, width in zip(values_of(parameters), WIDTHS)]
     )
@@ -64,12 +72,12 @@ def parameters_of_bits(data: Bits) -> Parameters:
 
 
 SILENCE_BLOCK = Block(profile.SILENCE_LAG, 0, profile.SILENCE_GRID, 0, profile.SILENCE_PULSES)
-SILENCE = Parameters(
-    profile.SILENCE_LARC, 4 * (SILENCE_BLOCK,)
-)  # the frame of silence (this project's profile)
+# the frame of silence (this project's profile)
+SILENCE = Parameters(profile.SILENCE_LARC, 4 * (SILENCE_BLOCK,))
 
-# Frames of libgsm have the four bits of 0xD, and then each parameter with its most significant bit first. In WAV files of GSM frames, 65 octets have
-# two frames of 260 bits, each octet with its least significant bit first.
+# Frames of libgsm have the four bits of 0xD, and then each parameter with its most significant bit
+# first. In WAV files of GSM frames, 65 octets have two frames of 260 bits, each octet with its
+# least significant bit first.
 GSM_OCTETS, GSM_MAGIC = 33, 0xD
 WAV_BLOCK_OCTETS = 65
 

@@ -1,5 +1,6 @@
-"""What the full rate encoder does to samples first (GSM 06.10 sections 4.2.1 to 4.2.3). The peaks of frames, which discontinuous
-transmission compares with a call's level, are those of its answer."""
+"""What the full rate encoder does to samples first (GSM 06.10 sections 4.2.1 to 4.2.3). The peaks
+of frames, which discontinuous transmission compares with a call's level, are those of its
+answer."""
 
 from typing import Iterable, List
 
@@ -7,7 +8,8 @@ from trau.rules.arithmetic import add, mult_r, saturate, saturate_long
 
 
 class Preprocessing:
-    """Downscaling, offset compensation and preemphasis (GSM 06.10 sections 4.2.1 to 4.2.3); all is 0 at home."""
+    """Downscaling, offset compensation and preemphasis (GSM 06.10 sections 4.2.1 to 4.2.3); all is
+    0 at home."""
 
     def __init__(self) -> None:
         self.z1 = 0  # the sample before, scaled
@@ -15,7 +17,8 @@ class Preprocessing:
         self.mp = 0  # the sample before, without its offset
 
     def run(self, samples: Iterable[int]) -> List[int]:
-        """The samples that follow those of before, downscaled, without offset and with preemphasis."""
+        """The samples that follow those of before, downscaled, without offset and with
+        preemphasis."""
         emphasised = []
         for sample in samples:
             scaled = (sample >> 3) << 2

@@ -1,7 +1,11 @@
-"""The numbers of this project's profile, each once: what the standards leave open, and this project chose.
+"""The numbers of this project's profile, each once: what the standards leave open, and this project
+chose.
 
-Tables that a standard has stand where they are used: GSM 06.10 in `parameters` and the model's `codec`, GSM 08.60 in `frame`, G.711 in `g711`.
+Tables that a standard has stand where they are used: GSM 06.10 in `parameters` and the model's
+`codec`, GSM 08.60 in `frame`, G.711 in `g711`, RFC 3551 in `payload_types`.
 """
+
+from typing import Dict, NamedTuple
 
 # Lines (docs/FILES.md). Octets in a period of 20 ms; an octet of an idle line to the exchange.
 FRAME_OCTETS = 40
@@ -27,7 +31,8 @@ DOWN_IDLE = "01110"
 # The search for frames on an uplink: so many misses in a row end the lock.
 MISSES_TO_HUNT = 3
 
-# The source of random numbers of a call: r becomes (STEP r + ADD) mod MODULUS, and starts at the call's number.
+# The source of random numbers of a call: r becomes (STEP r + ADD) mod MODULUS, and starts at the
+# call's number.
 RANDOM_STEP = 25173
 RANDOM_ADD = 13849
 RANDOM_MODULUS = 65536
@@ -54,13 +59,15 @@ TAF_PERIODS = 24  # from one silence descriptor of a pause to the next (GSM 06.3
 # Discontinuous transmission (modelled on GSM 06.31 and 06.32).
 FIRST_LEVEL = 256  # a frame is speech from this peak on, before any order
 MOST_LEVEL = 32767
-DESCRIBED_FROM = 5  # the frame of a pause for which its first descriptor is made; those before it may be a hangover
+# the frame of a pause for which its first descriptor is made; those before it may be a hangover
+DESCRIBED_FROM = 5
 DESCRIPTOR_FRAMES = 4  # the frames that a descriptor is made of
 HANGOVER_AFTER = (
     24  # frames from a new descriptor to the first frame of a pause that has a hangover
 )
 
-# Time alignment (modelled on GSM 08.60). A shift is counted in octets of the Pcm line, two bits of the downlink each.
+# Time alignment (modelled on GSM 08.60). A shift is counted in octets of the Pcm line, two bits of
+# the downlink each.
 MOST_STEPS = 39  # the alignment fields 1 to 39 ask for so many steps
 STEP_OCTETS = 4
 SMALL_DELAY_FIELD = 62
@@ -85,18 +92,39 @@ MOST_ORDERS = 65_536
 MOST_MARKED_OCTETS = 1_310_720  # a mark and its orders together
 SUM_MODULUS = 1 << 32  # of the sums of octets in a mark, a drill and a live drill
 
-# Options of the commands: the least value, the greatest, and the value without the option (None: it has to be there).
-PACE_OPTIONS = {"workers": (1, 64, 4), "batch": (1, 250, 50), "slice": (1, 250, 5)}
-DRAWN_OPTIONS = {"seed": (0, 4_294_967_295, 1), "calls": (1, 256, 64), "periods": (1, 1_000, 200)}
-OPTIONS = {
-    "run": {**PACE_OPTIONS, "periods": (1, MOST_PERIODS, MOST_PERIODS)},
-    "resume": {**PACE_OPTIONS, "periods": (1, MOST_PERIODS, MOST_PERIODS)},
-    "save": {**PACE_OPTIONS, "periods": (1, MOST_PERIODS, None)},
+
+class OptionRange(NamedTuple):
+    """The least value of an option and the greatest, the value without the option, and whether it
+    has to be there."""
+
+    least: int
+    most: int
+    default: int
+    is_required: bool = False
+
+
+# Options of the commands.
+PACE_OPTIONS = {
+    "workers": OptionRange(1, 64, 4),
+    "batch": OptionRange(1, 250, 50),
+    "slice": OptionRange(1, 250, 5),
+}
+DRAWN_OPTIONS = {
+    "seed": OptionRange(0, 4_294_967_295, 1),
+    "calls": OptionRange(1, 256, 64),
+    "periods": OptionRange(1, 1_000, 200),
+}
+END_OF_RUN = OptionRange(1, MOST_PERIODS, MOST_PERIODS)
+OPTIONS: Dict[str, Dict[str, OptionRange]] = {
+    "run": {**PACE_OPTIONS, "periods": END_OF_RUN},
+    "resume": {**PACE_OPTIONS, "periods": END_OF_RUN},
+    "save": {**PACE_OPTIONS, "periods": END_OF_RUN._replace(is_required=True)},
     "drill": {**PACE_OPTIONS, **DRAWN_OPTIONS},
-    "live": {**DRAWN_OPTIONS, "callers": (1, 64, 4), "inbox": (1, 1_024, 8)},
+    "live": {**DRAWN_OPTIONS, "callers": OptionRange(1, 64, 4), "inbox": OptionRange(1, 1_024, 8)},
 }
 
-# What a drill draws (docs/commands/drill.md). The generator: x becomes (FACTOR x + ADD) mod MODULUS.
+# What a drill draws (docs/commands/drill.md). The generator: x becomes (FACTOR x + ADD) mod
+# MODULUS.
 DRILL_FACTOR = 1_664_525
 DRILL_ADD = 1_013_904_223
 DRILL_MODULUS = 1 << 32
@@ -111,10 +139,11 @@ DRILL_FRAMES = (
     (200, "sid"),
     (0, "good"),
 )
+# the alignment fields that draws stand for; any other draw stands for 0
 DRILL_FIELDS = {
     0: 39,
     1: 63,
-}  # the alignment fields that draws stand for; any other draw stands for 0
+}
 DRILL_TAF_PERIODS = 24  # TAF is 1 in the last of each
 DRILL_PCM_PERIODS = 32  # so many periods of an idle Pcm line and as many that are drawn, in turn
 DRILL_BRIDGE_CALLS = 4  # of each four calls the first is bridged with the next

@@ -1,4 +1,5 @@
-"""The report of a run, line by line (docs/OPERATORS.md, "The report, line by line"; this project's profile)."""
+"""The report of a run, line by line (docs/OPERATORS.md, "The report, line by line"; this project's
+profile)."""
 
 from dataclasses import dataclass, field
 from typing import Dict, List, NamedTuple, Optional, Sequence, Tuple
@@ -15,8 +16,9 @@ def text_of(lines: Sequence[str]) -> str:
 
 
 class Reply(NamedTuple):
-    """What became of an executed order: nothing where it was accepted, else the number of its refusal, the call that it was refused for,
-    and where the reason has one that call's partner (docs/OPERATORS.md, "Refusals")."""
+    """What became of an executed order: nothing where it was accepted, else the number of its
+    refusal, the call that it was refused for, and where the reason has one that call's partner
+    (docs/OPERATORS.md, "Refusals")."""
 
     refusal: Optional[int] = None
     call: Optional[int] = None
@@ -31,8 +33,9 @@ class Reply(NamedTuple):
 
 
 class ReportedBridge(NamedTuple):
-    """A bridge of two calls, from its first period to the one after its last; of the frames of each how many went out on the other's downlink,
-    and how many were lost (docs/OPERATORS.md, "The report, line by line")."""
+    """A bridge of two calls, from its first period to the one after its last; of the frames of each
+    how many went out on the other's downlink, and how many were lost (docs/OPERATORS.md, "The
+    report, line by line")."""
 
     calls: Tuple[int, int]
     start: int
@@ -47,8 +50,9 @@ class ReportedBridge(NamedTuple):
 
 
 class ReportedCall(NamedTuple):
-    """A call's first period, the one after its last, why it ended there, and its counts: what was found on its uplink by kind and class, and
-    how many frames were made for its downlink (docs/OPERATORS.md, "The report, line by line")."""
+    """A call's first period, the one after its last, why it ended there, and its counts: what was
+    found on its uplink by kind and class, and how many frames were made for its downlink
+    (docs/OPERATORS.md, "The report, line by line")."""
 
     start: int
     end: int
@@ -77,7 +81,8 @@ class FailedLine(NamedTuple):
 
 @dataclass
 class Report:
-    """The report of a run: replies, bridges as they were accepted, calls by number, failed lines, and the orders that weren't executed."""
+    """The report of a run: replies, bridges as they were accepted, calls by number, failed lines,
+    and the orders that weren't executed."""
 
     replies: List[Reply] = field(default_factory=list)
     bridges: List[ReportedBridge] = field(default_factory=list)
@@ -86,7 +91,8 @@ class Report:
     left: int = 0
 
     def end(self) -> int:
-        """The period at which the last call ends (docs/OPERATORS.md, "The report, line by line")."""
+        """The period at which the last call ends (docs/OPERATORS.md, "The report, line by
+        line")."""
         return max((call.end for call in self.calls.values()), default=0)
 
     def text(self) -> str:

@@ -1,4 +1,5 @@
-"""Time slots of 64 kbit/s with four channels of 16 kbit/s (CCITT I.460, docs/FILES.md, "Time slots")."""
+"""Time slots of 64 kbit/s with four channels of 16 kbit/s (CCITT I.460, docs/FILES.md, "Time
+slots")."""
 
 from typing import List, Sequence
 
@@ -19,7 +20,8 @@ def octets_turned(octets: bytes) -> bytes:
 
 
 def octets_from(octets: bytes, bit: int) -> bytes:
-    """The octets that begin at this bit of the first one, 0 to 7, without the bits after the last whole one."""
+    """The octets that begin at this bit of the first one, 0 to 7, without the bits after the last
+    whole one."""
     count = max(0, len(octets) - 1)
     return (
         (int.from_bytes(octets, "big") >> 8 - bit & (1 << 8 * count) - 1).to_bytes(count, "big")
@@ -34,7 +36,8 @@ def octets_of_pairs(columns: Sequence[bytes]) -> bytes:
 
 
 def channel_octets(slot: bytes, number: int) -> bytes:
-    """The octets of a channel of a slot; four octets of the slot carry one, its first bits first."""
+    """The octets of a channel of a slot; four octets of the slot carry one, its first bits
+    first."""
     pairs = slot[: len(slot) // 4 * 4].translate(PAIRS[number])
     return octets_of_pairs([pairs[place::4] for place in range(4)])
 
@@ -45,6 +48,7 @@ def split(slot: bytes) -> List[bytes]:
 
 
 def merge(channels: Sequence[bytes]) -> bytes:
-    """The slot that carries four channels of equal length: four of its octets for each octet of a channel."""
+    """The slot that carries four channels of equal length: four of its octets for each octet of a
+    channel."""
     columns = [octets_of_pairs([octets.translate(pairs) for octets in channels]) for pairs in PAIRS]
     return bytes([octet for group in zip(*columns) for octet in group])

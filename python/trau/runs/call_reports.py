@@ -173,7 +173,7 @@ def row_of_call(folder: Path, call: RecordedCall, bridges: Sequence[ReportedBrid
         "descriptors": call.span.counts["sid"],
         "down_frames": sum(down.values()),
         "down_speech": down[DownlinkKind.SPEECH],
-        "down_descriptors": down[DownlinkKind.SILENCE],
+        "down_descriptors": down[DownlinkKind.VALID_SID],
         "down_idle": down[DownlinkKind.IDLE],
         "down_handed": down[DownlinkKind.HANDED],
         "unused_up": unused_periods(folder, call, "up"),

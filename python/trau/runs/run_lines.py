@@ -163,7 +163,7 @@ class DownlinkKind(enum.Enum):
     """What a frame of a downlink is."""
 
     SPEECH = "speech"
-    SILENCE = "silence descriptor"
+    VALID_SID = "silence descriptor"
     IDLE = "idle"
     HANDED = "handed over in a bridge"
     OTHER = "another frame"
@@ -180,13 +180,13 @@ DOWN_KINDS = {int(DOWN_IDLE, 2): DownlinkKind.IDLE, int(DOWN_SPEECH, 2): Downlin
 DOWN_KIND = table(lambda octet: SENTS.index(DOWN_KINDS.get(octet >> 2 & 31, DownlinkKind.OTHER)))
 SPEECH_PAUSE = table(lambda octet: 0 if octet & 2 else 0x10)
 DOWN_CODE = table(
-    lambda marks: SENTS.index(DownlinkKind.SILENCE)
+    lambda marks: SENTS.index(DownlinkKind.VALID_SID)
     if marks == 0x10 | SENTS.index(DownlinkKind.SPEECH)
     else min(marks & 7, NOTHING_SENT)
 )
 HANDED_CODE = table(
     lambda code: SENTS.index(DownlinkKind.HANDED)
-    if code in (SENTS.index(DownlinkKind.SPEECH), SENTS.index(DownlinkKind.SILENCE))
+    if code in (SENTS.index(DownlinkKind.SPEECH), SENTS.index(DownlinkKind.VALID_SID))
     else code
 )
 

@@ -42,7 +42,7 @@ REPORT = "report.txt"
 STATUS = "status"
 SCRIPT = "run.sh"
 STATUSES_WITH_A_REPORT = (0, 6)
-_, _, DEFAULT_BATCH = PACE_OPTIONS["batch"]  # of trau run
+DEFAULT_BATCH = PACE_OPTIONS["batch"].default  # of trau run
 
 SCRIPT_TEXT = """#!/bin/sh
 # Runs this part of a farm, and keeps its report and its status. Status 0: there is a whole report,
