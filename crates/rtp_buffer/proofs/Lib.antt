@@ -1,4 +1,4 @@
-pub mod Slots
-pub mod Histories
-pub mod Rows
-pub mod Pacing
+mod Slots
+mod Histories
+mod Rows
+mod Pacing

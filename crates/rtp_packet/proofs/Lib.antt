@@ -1,4 +1,4 @@
-pub mod Facts
-pub mod Laid
-pub mod Plain
-pub mod Taken
+mod Facts
+mod Laid
+mod Plain
+mod Taken

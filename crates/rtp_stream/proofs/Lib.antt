@@ -1,2 +1,2 @@
-pub mod Pieces
-pub mod Distance
+mod Pieces
+mod Distance

@@ -12,7 +12,7 @@ mod HonestOpening
 mod HonestReads
 mod HonestTries
 mod HonestWrites
-pub mod Knowing
+mod Knowing
 pub mod Leaving
 mod Moves
 mod Noting
