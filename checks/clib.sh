@@ -95,7 +95,7 @@ said "random calls of the day" python3 "$tests/random_sides.py" --seed "$(date -
 
 # hosts CLASS: tests of hosts in clib/examples
 hosts() {
-    said "examples: $1" python3 "$tests/test_examples.py" -v "$1"
+    said "examples: $1" env PYTHONPATH="$PYTHONPATH:$top/clib/examples" python3 "$tests/test_examples.py" -v "$1"
     say_skipped "$1" said.txt
 }
 
@@ -103,7 +103,7 @@ hosts Header
 hosts Conform
 hosts Ecu
 hosts GStreamer
-[ "${1:-}" != --long ] || said "a port" python3 "$tests/long_port.py"
+[ "${1:-}" != --long ] || said "a port" env PYTHONPATH="$PYTHONPATH:$top/clib/examples" python3 "$tests/long_port.py"
 
 # The system's libgsm may compute in floats. Then it differs from the standard on hard signals, which is no failure of this library.
 if cc -O2 -o hard_of_system "$tests/libgsm_hard.c" -l:libgsm.so.1 -lm 2>/dev/null && ./hard_of_system >of_system.txt; then
