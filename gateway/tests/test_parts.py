@@ -259,6 +259,14 @@ class Streams(unittest.TestCase):
         self.assertEqual(stream.came(), {"packets": 4, "missing": 0})
         self.assertEqual(stream.counts, {"given-up": 4})
 
+    def test_a_jump_ends_time_that_was_given_up(self):
+        stream = gsm_stream(0)
+        stream.packet(header(3, 1, 80000, 5) + ONE, 0, 0)
+        stream.give_up(10, 1)
+        for number, stamp in ((2, 48000), (3, 48160), (4, 47840)):  # the last one is late
+            stream.packet(header(3, number, stamp, 5) + ONE, 1, 0)
+        self.assertEqual(stream.counts, {"far": 1, "jumps": 1, "late": 1})
+
     def test_another_source_brings_two_packets(self):
         stream = gsm_stream()
         stream.packet(header(3, 1, 160, 5) + ONE, 0, 0)

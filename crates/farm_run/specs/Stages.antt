@@ -62,6 +62,11 @@ pub record HoldsBack (was is : ℕ → Side → Bool) (before now : ℕ → Side
   pub lines : (c : ℕ) (s : Side) → IsOutgoing s → now c s ≡ before c s
   pub listed : (c : ℕ) (s : Side) → IsOutgoing s → is c s ≡ was c s
 
+-- A line that was listed as failed is unchanged, its fault count included, and it is still listed.
+pub record NoneUsedAgain (was is : ℕ → Side → Bool) (before now : ℕ → Side → LineState) : Type 0 where
+  pub lines : (c : ℕ) (s : Side) → was c s ≡ true → now c s ≡ before c s
+  pub listed : (c : ℕ) (s : Side) → was c s ≡ true → is c s ≡ true
+
 -- This holds of each run that was at the clock of s, and goes on from u to its end. `first` are the lines before the run, and
 -- `last` is its state at its end.
 abbrev pub InEachRun : Stage → Stage → (ℕ → Side → LineState) → (ℕ → Side → LineState) →
@@ -87,6 +92,8 @@ pub record Reaches (batch : ℕ) (s u : Stage) (before now : ℕ → Side → Li
       (standing u.board u.farm.failed now)
   pub back : is_held s.outgoing ≡ true →
       HoldsBack (is_listed s.farm.failed) (is_listed u.farm.failed) before now
+  -- a line that failed isn't used in a later round
+  pub unused : NoneUsedAgain (is_listed s.farm.failed) (is_listed u.farm.failed) before now
   -- board, farm and incoming lines are still the run's
   pub run : InEachRun s u before now
       (λ r first last. IsAtClock r u.clock u.board u.farm.calls last first now)

@@ -3,7 +3,8 @@
 use crate::rows::assert_row;
 use rtp_packet::{Header, Reception, Refusal, parse};
 
-// The first twelve octets of packets that ffmpeg, GStreamer and Osmocom's media gateway sent, and what Wireshark shows of them.
+// The first twelve octets of a packet in each of `ffmpeg.pcap`, `gstreamer.pcap`, `osmo.pcap` and `pcmu.pcap` (tools/tests/data, whose
+// senders tools/README.md names), and the header's fields, which were read from these octets.
 static SENT: [([u8; 12], bool, u8, u16, u32, u32); 4] = [
     (
         [

@@ -25,7 +25,7 @@ pub enum Refusal {
     Short,
     /// It is of another version than 2.
     Version,
-    /// It is RTCP on the same port (RFC 5761): payload types 64 to 95.
+    /// Its payload type is one of 64 to 95, as that of RTCP on the same port seems to be (RFC 5761).
     Control,
     /// It ends within its contributing sources, or in the extension's first four octets.
     Cut,

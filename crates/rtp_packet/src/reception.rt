@@ -6,7 +6,7 @@ ghost use Rattle.std.specs.Prelude.{◌≡◌, ◌≤◌, ◌<◌, ◌↔◌, �
 ghost use Rattle.rtp_packet.specs.Reception.{distance, smoothed, most_jitter, jitter_after, is_restart, reception_home, number_taken, time_taken, counted, expected_of, missing_of};
 
 /// Numbers up to so many ahead of the highest one or behind it are of the same run of packets. Others are of a sender
-/// that begins anew, or of a packet that doesn't belong (RFC 3550 has 3,000 and 100).
+/// that begins anew, or of a packet that doesn't belong (RFC 3550: less than 3,000 ahead, less than 100 behind).
 const MOST_GAP: u32 = 3000;
 
 /// Units of the time stamp, one second: a packet that moved by so much or more says nothing about jitter.
@@ -29,7 +29,7 @@ pub struct Reception {
     /// The latest packet's arrival less its time stamp, in units of the time stamp, if it is known.
     pub transit: Option<u32>,
     /// After a number that was far away, the very next one: the first packet of a sender that begins anew may go on
-    /// with it.
+    /// with it. It stays until another number is far away.
     pub restart: Option<u16>,
 }
 

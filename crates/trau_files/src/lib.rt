@@ -24,4 +24,4 @@ pub use contents::{AtStart, Contents};
 pub use desk::StdDesk;
 pub use folder::Folder;
 pub use retry::{ReadOnce, WriteOnce};
-pub use trunk::FileTrunk;
+pub use trunk::{FileIdentity, FileTrunk};

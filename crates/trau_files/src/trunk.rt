@@ -81,6 +81,13 @@ impl<D: Folder + Drop> FileTrunk<D> {
     {
         self.lines[line_index(line)].refuse()
     }
+
+    /// The folder as the lines leave it. Their files are closed, and the reasons for faults are forgotten.
+    pub fn into_folder(self) -> D
+        ensures { result ≡ self.files.folder }
+    {
+        self.files.into_folder()
+    }
 }
 
 impl<D: Folder + Eprint + Drop> FileTrunk<D> {

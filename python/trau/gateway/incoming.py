@@ -157,6 +157,7 @@ class Incoming:
                 self.jump = number + 1 & rtp.NUMBERS, stamp + samples & rtp.STAMPS
                 raise PacketRefused("far")
             self.counts["jumps"] += 1
+            self.stale = 0  # what comes now is of another time
             self.begin(stamp, tick + behind)
             return 0, 0
         self.jump = None

@@ -20,6 +20,7 @@ use Rattle.farm_run.proofs.Noted.Knowing.{known_start}
 use Rattle.farm_run.proofs.Clocks.Meeting.{stays, further, reads_more}
 use Rattle.farm_run.proofs.Worked.Short.{short_none}
 use Rattle.farm_run.proofs.Lines.Sides.{sides_none, sides_more}
+use Rattle.farm_run.proofs.Listed.Counts.{unused_none, unused_more}
 use Rattle.farm_run.proofs.Clocks.Summing.{sums_first}
 
 -- ---- one part after another
@@ -37,6 +38,7 @@ reaches_none batch s lines stage = record {
   sides = sides_none lines;
   goes = stays (standing s.board s.farm.failed lines);
   back = λ held. record { lines = λ c side o. refl; listed = λ c side o. refl };
+  unused = unused_none (is_listed s.farm.failed) lines;
   run = λ r first last flags within on at. at;
   known = λ r first last flags within on at known. known;
   wrote = λ held from l r first last flags within on at wrote. wrote;
@@ -63,6 +65,7 @@ reaches_more batch s u v before between now g h = record {
       let a = g.back held in
       let b = h.back (g.way.held ∙ held) in
       record { lines = λ c side o. b.lines c side o ∙ a.lines c side o; listed = λ c side o. b.listed c side o ∙ a.listed c side o };
+  unused = unused_more _ _ _ before between now g.unused h.unused;
   run = λ r first last flags within on at. h.run r first last flags within on (g.run r first last flags (less r within) (further _ _ _ h.goes on) at);
   known = λ r first last flags within on at known.
       h.known r first last flags within on (g.run r first last flags (less r within) (further _ _ _ h.goes on) at)

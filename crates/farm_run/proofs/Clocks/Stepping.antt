@@ -13,7 +13,7 @@ use Rattle.farm_run.specs.declared.stage.Stage.{Stage}
 use Rattle.farm_run.specs.declared.notes.SentBefore.{SentBefore}
 use Rattle.farm_run.specs.Orders.{OrdersDone}
 use Rattle.farm_run.specs.Runs.{TellsFailed, FailedBy, is_listed}
-use Rattle.farm_run.specs.Stages.{IsStage, Reaches}
+use Rattle.farm_run.specs.Stages.{IsStage, NoneUsedAgain, Reaches}
 use Rattle.farm_run.specs.Standing.{Standing, standing}
 use Rattle.farm_run.specs.Clock.{IsAtClock, WrittenFrom}
 use Rattle.farm_run.proofs.Worked.Short.{short_later}
@@ -23,6 +23,7 @@ use Rattle.farm_run.proofs.Noted.Knowing.{known_idle}
 use Rattle.farm_run.proofs.Clocks.Meeting.{stays, ordered}
 use Rattle.farm_run.proofs.Noted.Truly.{truly_same}
 use Rattle.farm_run.proofs.Lines.Sides.{sides_none}
+use Rattle.farm_run.proofs.Listed.Counts.{unused_none}
 use Rattle.farm_run.proofs.Clocks.Summing.{sums_on}
 
 -- from two facts of a result
@@ -61,6 +62,7 @@ module _ (s : Stage) (b : State) (farm : FarmMemory) (ns : List SentBefore) (sta
       lines = k.lines;
       listed = λ c side i. k.listed c side i ∙ ap (λ (ls : List Line). is_listed ls c side) o.failed;
     };
+    unused = subst (λ (ls : List Line). NoneUsedAgain (is_listed ls) (is_listed u.farm.failed) before now) o.failed h.unused;
     run = λ r first last flags within on at. h.run r first last flags within on (here r first last within at);
     known = λ r first last flags within on at known.
         h.known r first last flags within on (here r first last within at) (record {
@@ -106,6 +108,7 @@ idle_reaches batch s u lines stage later clear none = record {
   sides = sides_none lines;
   goes = stays (standing s.board s.farm.failed lines);
   back = λ held. record { lines = λ c side o. refl; listed = λ c side o. refl };
+  unused = unused_none (is_listed s.farm.failed) lines;
   run = λ r first last flags within on at. goes_on r s.clock u s.board s.farm.calls last first lines at later within clear (shut r first last at);
   known = λ r first last flags within on at known. known_idle r s.clock u s.board s.farm.tallies s.notes later (shut r first last at) known;
   wrote = λ held from l r first last flags within on at wrote. written_on r s.clock u s.board s.farm.calls last first lines at later within clear

@@ -12,7 +12,9 @@ use Rattle.trau_io.specs.declared.ends.CallEnd.{CallEnd}
 use Rattle.trau_io.specs.Lines.{LineState}
 use Rattle.round_lines.specs.Memory as round_lines
 use Rattle.round_lines.specs.Memory.{fails_in, LinesMemory}
-use Rattle.round_lines.specs.Rounds.{IsIncoming, seat_at, call_at}
+use Rattle.round_lines.specs.declared.transfer.Outlet.{Outlet}
+use Rattle.round_lines.specs.Transfer.{has_failed}
+use Rattle.round_lines.specs.Rounds.{IsIncoming, IsOutgoing, seat_at, call_at}
 use Rattle.switchboard.specs.Calls.{Done, opened_at, closed_at}
 use Rattle.switchboard.specs.State.{State, gone_in}
 use Rattle.switchboard.specs.Open.{opened_now, open_now}
@@ -21,13 +23,16 @@ use Rattle.farm_rounds.specs.Memory.{FarmMemory}
 use Rattle.farm_rounds.specs.Working.{goes_on_call}
 use Rattle.run_spec.specs.Run.{Run}
 use Rattle.farm_run.specs.Match.{AtClock}
+use Rattle.farm_run.specs.Outgoing.{PassesOn}
 use Rattle.farm_run.specs.Runs.{is_listed, ReadsOn}
+use Rattle.farm_run.specs.Stages.{NoneUsedAgain}
 use Rattle.farm_run.specs.Standing.{Standing, standing, is_over, StandingGoesOn, KnowsListed, HasFlags}
 use Rattle.farm_run.proofs.Listed.Boards.{over_shut, open_opened, open_gone, gone_told, over_told}
 use Rattle.farm_run.proofs.Listed.Counts.{seat_cases}
 use Rattle.farm_run.proofs.Worked.Round.{WorkedRound, SeatFacts, filled_call, filled_periods, worked_call, up_long, pcm_long, MeetsRun}
-use Rattle.farm_run.proofs.Worked.Facts.{lines_kept, incoming_after, seat_facts}
-use Rattle.farm_run.proofs.Listed.Round.{listed_cases, marked, listed_kept, listed_incoming, marks_kept}
+use Rattle.farm_run.proofs.Listed.Tests.{or_left}
+use Rattle.farm_run.proofs.Worked.Facts.{lines_kept, incoming_after, outgoing_between, seat_facts}
+use Rattle.farm_run.proofs.Listed.Round.{listed_cases, listed_still, marked, listed_kept, listed_incoming, marks_kept, was_down, was_out}
 use Rattle.farm_rounds.proofs.Gaining.{fewer_up, fewer_pcm}
 use Rattle.farm_rounds.proofs.GoingOn.{goes_on_at}
 use Rattle.farm_run.proofs.Told.Boards.{told_done}
@@ -42,6 +47,12 @@ front_read (Some zs) (Some ys) front xs c e = (length front, ap Some (sym (drop-
   where
     same : (zs xs : List ℕ) → Some zs ≡ Some xs → zs ≡ xs
     same zs xs e = cc
+
+-- a line that failed is passed over, or nothing happens to it
+passed_over : (before now : LineState) (was stands : Outlet) (octets : List ℕ) →
+    PassesOn before now was stands octets → has_failed was ≡ true → now ≡ before
+passed_over before now was stands octets (inl g) q = (g.passed q).0
+passed_over before now was stands octets (inr e) q = e.0
 
 -- an end is told of an open call that isn't open afterwards
 over_by : (p q g p' q' g' : Bool) → p' ≡ p → q' ≡ q → (p && not q && not g) ≡ true → (p' && not q' && not g') ≡ false → (g' || q') ≡ true
@@ -184,6 +195,34 @@ module _ (t n : ℕ) (b : State) (farm after : FarmMemory) (before now : ℕ →
         | inl m ↦ let g =
             given c side octets i e m.0 m.1 m.2 in (g.0, ap (λ (l : LineState). l.to_come) (incoming_after t n farm after before now ends w c side i) ∙ g.1)
         | inr none ↦ (0, ap (λ (l : LineState). l.to_come) (lines_kept t n farm after before now ends w c none side) ∙ e)
+      ]
+
+  -- **A line that failed before the round isn't used in it.**
+  pub unused_after : NoneUsedAgain (is_listed farm.failed) (is_listed after.failed) before now
+  unused_after = record { lines = lines; listed = listed_still t n farm after before now ends w }
+    where
+      over : (c : ℕ) (side : Side) → IsIncoming side → is_listed farm.failed c side ≡ true → now c side ≡ before c side
+      over c side i q = lines_kept t n farm after before now ends w c
+          (no_seat_of c (or_left (gone_in b c) (is_some (closed_at c b.done)) (knows.ended c side i q))) side
+
+      outgoing : (c : ℕ) (side : Side) → IsOutgoing side → now c side ≡ w.between c side → now c side ≡ before c side
+      outgoing c side i e = e ∙ outgoing_between t n farm after before now ends w c side i
+
+      seated : (side : Side) (k c : ℕ) → k < length farm.live → slice_index farm.live k ≡ c →
+          is_listed farm.failed c side ≡ true → now c side ≡ before c side
+      seated Up k c l e q = over c Up tt q
+      seated Pcm k c l e q = over c Pcm tt q
+      seated Down k c l e q =
+          let s = known_seat k c l e in
+          outgoing c Down tt (passed_over _ _ _ _ _ s.facts.drains.down (was_down t n farm after before now ends w k c l e ∙ q))
+      seated Out k c l e q =
+          let s = known_seat k c l e in
+          outgoing c Out tt (passed_over _ _ _ _ _ s.facts.drains.out (was_out t n farm after before now ends w k c l e ∙ q))
+
+      lines : (c : ℕ) (side : Side) → is_listed farm.failed c side ≡ true → now c side ≡ before c side
+      lines c side q = elim (seat_cases t n farm after before now ends w c) [
+        | inl m ↦ seated side m.0 c m.1 m.2 q
+        | inr none ↦ lines_kept t n farm after before now ends w c none side
       ]
 
   -- **So the round meets a run that goes on from behind it.**

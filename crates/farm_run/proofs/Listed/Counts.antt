@@ -1,5 +1,5 @@
 -- The counts of the lines' faults, and the lines that are listed as failed.
-use Rattle.std.proofs.Common.{◌≡◌, refl, sym, ap, ◌∙◌, subst, ℕ, ◌<◌, ◌≤◌, true, false, List, length, map, inl, inr}
+use Rattle.std.proofs.Common.{◌≡◌, refl, sym, ap, ◌∙◌, subst, ℕ, ◌<◌, ◌≤◌, Bool, true, false, List, length, map, inl, inr}
 use Rattle.std.proofs.Common.{◌⊎◌, arith}
 use Rattle.std.specs.Prelude.{is_some, slice_index}
 use Rattle.std.specs.List.{Contains}
@@ -21,6 +21,7 @@ use Rattle.farm_run.proofs.Worked.Facts.{seat_facts, lines_kept, down_between, o
 use Rattle.farm_run.specs.Outgoing.{PassesOn}
 use Rattle.farm_run.specs.Runs.{is_listed, TellsFailed}
 use Rattle.farm_run.specs.Clock.{NeverFell}
+use Rattle.farm_run.specs.Stages.{NoneUsedAgain}
 
 -- **A count that rose since some time rose since any earlier one, and is no less than it was.**
 pub rose_before : (first before now : ℕ) → first ≤ before → Rose before now → Rose first now
@@ -32,6 +33,18 @@ rose_after first before now l r = omega arith
 -- no count fell in two steps
 pub fell_more : (first before now : ℕ → Side → LineState) → NeverFell first before → NeverFell before now → NeverFell first now
 fell_more first before now l m c s = let a = l c s in let b = m c s in omega arith
+
+-- nothing has happened
+pub unused_none : (was : ℕ → Side → Bool) (lines : ℕ → Side → LineState) → NoneUsedAgain was was lines lines
+unused_none was lines = record { lines = λ c s q. refl; listed = λ c s q. q }
+
+-- **A line that isn't used in either of two steps isn't used in both.**
+pub unused_more : (was then is : ℕ → Side → Bool) (first before now : ℕ → Side → LineState) →
+    NoneUsedAgain was then first before → NoneUsedAgain then is before now → NoneUsedAgain was is first now
+unused_more was then is first before now g h = record {
+  lines = λ c s q. h.lines c s (g.listed c s q) ∙ g.lines c s q;
+  listed = λ c s q. h.listed c s (g.listed c s q);
+}
 
 -- no count falls where a line is given octets, or nothing happens to it
 moved_later : (before now : LineState) (was stands : Outlet) (octets : List ℕ) →

@@ -96,7 +96,7 @@ module _ (t n : ℕ) (farm after : FarmMemory) (before now : ℕ → Side → Li
   listed_cases = gained_cases farm.failed after.failed w.drained_seats w.gains
 
   -- one that was listed still is
-  listed_still : (c : ℕ) (side : Side) → is_listed farm.failed c side ≡ true → is_listed after.failed c side ≡ true
+  pub listed_still : (c : ℕ) (side : Side) → is_listed farm.failed c side ≡ true → is_listed after.failed c side ≡ true
   listed_still = gained_still farm.failed after.failed w.drained_seats w.gains
 
   -- the call and the side that a seat's mark names

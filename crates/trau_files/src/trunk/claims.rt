@@ -20,8 +20,10 @@ use trau_io::{LINE_INDICES, Line, line_index};
 /// A file on a disk: its device and its inode (stat(2)), the same for any name or link by which it is opened.
 #[derive(Clone, Copy, PartialEq)]
 pub struct FileIdentity {
-    device: u64,
-    inode: u64,
+    /// The number of the device that the file is on.
+    pub device: u64,
+    /// The file's number on this device.
+    pub inode: u64,
 }
 
 impl FileIdentity {

@@ -71,6 +71,13 @@ impl<D: Folder + Drop> LineFiles<D> {
         })
     }
 
+    /// The folder by itself.
+    pub fn into_folder(self) -> D
+        ensures { result ≡ self.folder }
+    {
+        self.folder
+    }
+
     /// Reads octets of a line's file, from octet `at` on, to the start of `buf`.
     pub fn read_at(&mut self, line: Line, at: u64, buf: &mut [u8]) -> Result<usize, Fault>
         ensures bound { ReadsAtMost result buf.new }

@@ -20,7 +20,7 @@ use Rattle.farm_run.proofs.Lines.Cutting.{on_err}
 use Rattle.farm_run.specs.Standing.{Standing, standing, StandingGoesOn, HasFlags}
 use Rattle.farm_run.proofs.Noted.Knowing.{known_round}
 use Rattle.farm_run.proofs.Listed.Round.{listed_back}
-use Rattle.farm_run.proofs.Listed.Behind.{knows_after, goes_after, meets_run}
+use Rattle.farm_run.proofs.Listed.Behind.{knows_after, goes_after, unused_after, meets_run}
 use Rattle.farm_run.proofs.Told.Boards.{told_done, told_left, told_orders}
 use Rattle.farm_run.proofs.Worked.Making.{IsMade, made_failed, made_octets, made_open, made_partners, made_stands, made_tallies}
 use Rattle.farm_run.proofs.Worked.Facts as parts
@@ -225,6 +225,7 @@ returns-clause-reaches g c =
         lines = λ d side o. ap (λ (lines : ℕ → Side → LineState). lines d side) (w.back held).0 ∙ outgoing_between _ _ _ _ _ _ _ w d side o;
         listed = λ d side o. listed_back _ _ _ _ _ _ _ w held d side o;
       };
+      unused = unused_after _ _ b _ _ _ _ _ w a knows b' told.told told.open;
       run = λ r first last flags l on at. clock_is r _ _ b _ _ first _ _ _ w (in_run g c r first last l at) m b' last at
           (meets g c r last flags on) told.told told.open;
       known = λ r first last flags l on at known.
