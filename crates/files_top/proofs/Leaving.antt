@@ -16,7 +16,7 @@ use Rattle.run_spec.specs.Lines.{down_of_call, out_of_call}
 use Rattle.run_spec.specs.Run.{Run, worked_to}
 use Rattle.run_calls_spec.specs.Whole.{whole_call}
 use Rattle.farm_run.specs.Fronts.{IsCutShort}
-use Rattle.farm_run.specs.Runs.{IsRunOver, Leaves, is_listed}
+use Rattle.farm_run.specs.Runs.{IsRunOver, Leaves, TellsFailed, is_listed}
 use Rattle.command_words.specs.declared.asked.Settings.{Settings}
 use Rattle.farm_report.specs.Lines.{report_text}
 use Rattle.farm_top.specs.Farm.{CarriesRun, FollowsReading, RefusesOrders, RunsOrders, TellsRun, status_of_run}
@@ -53,13 +53,14 @@ module _ {D F : Type 0} {does : Operations D F} (honest : IsHonest does) (start 
     (desk desk' : DeskState) (status : ℕ) where
   -- a run of orders that were read
   ended : (text_of : Run → List Line → List ℕ) (orders : List Order) (failed : List Line) (text : List ℕ) (read : DeskState) → AreRead orders desk read →
+      TellsFailed (first_if (Some honest) start) (contents_if (Some honest) start t) failed →
       ((r : Run) → IsRunOver orders s.periods (is_listed failed) (first_if (Some honest) start) (contents_if (Some honest) start t) r →
       Leaves r (is_listed failed) (first_if (Some honest) start) (contents_if (Some honest) start t)) →
       ((r : Run) → IsRunOver orders s.periods (is_listed failed) (first_if (Some honest) start) (contents_if (Some honest) start t) r →
       Headline r (is_listed failed) (first_if (Some honest) start) (contents_if (Some honest) start t)) →
       ((r : Run) → IsRunOver orders s.periods (is_listed failed) (first_if (Some honest) start) (contents_if (Some honest) start t) r → text ≡ text_of r failed) →
-      TellsRun failed text read desk' status → RunsOnDisk text_of s start (honest.disk t.files.folder) desk desk' status
-  ended text_of orders failed text read are_read leaves headline texts tells =
+      TellsRun failed text read desk' status → RunsOnDisk text_of s start (honest.disk t.files.folder) (first_if (Some honest) start) (contents_if (Some honest) start t) desk desk' status
+  ended text_of orders failed text read are_read told leaves headline texts tells =
       let gave : ℕ → Side → ℕ = λ c side. (line_at t.lines (index_of_line c side)).read in
       let r : Run = run_on orders s.periods start (is_listed failed) gave in
       record {
@@ -67,6 +68,7 @@ module _ {D F : Type 0} {does : Operations D F} (honest : IsHonest does) (start 
         read = read;
         are_read = are_read;
         failed = failed;
+        told = told;
         gave = gave;
         status_is = status_due failed text read desk' status tells;
         headline = λ there.
@@ -84,7 +86,7 @@ module _ {D F : Type 0} {does : Operations D F} (honest : IsHonest does) (start 
 
   -- a run that ran out of memory
   cut : (orders : List Order) (read : DeskState) → AreRead orders desk read →
-      IsCutShort orders s.batch s.periods (first_if (Some honest) start) (contents_if (Some honest) start t) → CutOnDisk s start (honest.disk t.files.folder) desk
+      IsCutShort orders s.batch s.periods (first_if (Some honest) start) (contents_if (Some honest) start t) → CutOnDisk s start (honest.disk t.files.folder) (first_if (Some honest) start) (contents_if (Some honest) start t) desk
   cut orders read are_read short =
       let gave : ℕ → Side → ℕ = λ c side. (line_at t.lines (index_of_line c side)).read in
       let r : Run = run_on orders s.periods start short.fails gave in
@@ -93,6 +95,7 @@ module _ {D F : Type 0} {does : Operations D F} (honest : IsHonest does) (start 
         read = read;
         are_read = are_read;
         fails = short.fails;
+        told = short.told;
         gave = gave;
         clock = short.clock;
         within = short.within;
@@ -106,17 +109,17 @@ module _ {D F : Type 0} {does : Operations D F} (honest : IsHonest does) (start 
   run_follows : (reading : Result (List Order) OrdersFault) (read : DeskState) → ReadsOrders desk read reading →
       ((given : List ℕ) → desk.to_come ≡ Some given → AnswersTold given reading) →
       FollowsReading (RunsOrders s (first_if (Some honest) start) (contents_if (Some honest) start t) desk' status) reading (first_if (Some honest) start)
-      (contents_if (Some honest) start t) read desk' status → RunLeaves report_told s start (honest.disk t.files.folder) desk desk' status
+      (contents_if (Some honest) start t) read desk' status → RunLeaves report_told s start (honest.disk t.files.folder) (first_if (Some honest) start) (contents_if (Some honest) start t) desk desk' status
   run_follows (Err refused) read reads told follows =
       inr (inr (refused_with refused read desk' status follows.1, files_stay honest start t knows follows.0))
   run_follows (Ok orders) read reads told follows = elim follows [
-    | inl runs ↦ inl (ended report_told orders runs.report.failed (report_text runs.report) read (record { reads = reads; told = told }) runs.runs.leaves runs.headline
+    | inl runs ↦ inl (ended report_told orders runs.report.failed (report_text runs.report) read (record { reads = reads; told = told }) runs.runs.failed runs.runs.leaves runs.headline
         (λ r over. ap report_text (runs.runs.reports r over)) runs.tells)
     | inr short ↦ inr (inl (short.1.status_is, cut orders read (record { reads = reads; told = told }) short.0))
   ]
 
   pub run_left : CarriesRun s (first_if (Some honest) start) (contents_if (Some honest) start t) desk desk' status →
-      RunLeaves report_told s start (honest.disk t.files.folder) desk desk' status
+      RunLeaves report_told s start (honest.disk t.files.folder) (first_if (Some honest) start) (contents_if (Some honest) start t) desk desk' status
   run_left carries = elim carries [
     | inl farm ↦ run_follows farm.reading farm.read farm.reads farm.told farm.follows
     | inr lacks ↦ inr (inr (inr (inr (inl lacks.1.status_is)), files_stay honest start t knows lacks.0))
@@ -125,17 +128,17 @@ module _ {D F : Type 0} {does : Operations D F} (honest : IsHonest does) (start 
   save_follows : (reading : Result (List Order) OrdersFault) (read : DeskState) → ReadsOrders desk read reading →
       ((given : List ℕ) → desk.to_come ≡ Some given → AnswersTold given reading) →
       FollowsReading (SavesOrders s (first_if (Some honest) start) (contents_if (Some honest) start t) desk' status) reading (first_if (Some honest) start)
-      (contents_if (Some honest) start t) read desk' status → RunLeaves mark_told s start (honest.disk t.files.folder) desk desk' status
+      (contents_if (Some honest) start t) read desk' status → RunLeaves mark_told s start (honest.disk t.files.folder) (first_if (Some honest) start) (contents_if (Some honest) start t) desk desk' status
   save_follows (Err refused) read reads told follows =
       inr (inr (refused_with refused read desk' status follows.1, files_stay honest start t knows follows.0))
   save_follows (Ok orders) read reads told follows = elim follows [
     | inl saves ↦ inl (ended mark_told orders saves.saved.failed (saved_text saves.saved.failed saves.saved.mark) read (record { reads = reads; told = told })
-        saves.saves.leaves saves.headline (λ r over. ap (saved_text saves.saved.failed) (saves.saves.marks r over)) saves.tells)
+        saves.saves.failed saves.saves.leaves saves.headline (λ r over. ap (saved_text saves.saved.failed) (saves.saves.marks r over)) saves.tells)
     | inr short ↦ inr (inl (short.1.status_is, cut orders read (record { reads = reads; told = told }) short.0))
   ]
 
   pub save_left : CarriesSave s (first_if (Some honest) start) (contents_if (Some honest) start t) desk desk' status →
-      RunLeaves mark_told s start (honest.disk t.files.folder) desk desk' status
+      RunLeaves mark_told s start (honest.disk t.files.folder) (first_if (Some honest) start) (contents_if (Some honest) start t) desk desk' status
   save_left carries = elim carries [
     | inl farm ↦ save_follows farm.reading farm.read farm.reads farm.told farm.follows
     | inr lacks ↦ inr (inr (inr (inr (inl lacks.1.status_is)), files_stay honest start t knows lacks.0))

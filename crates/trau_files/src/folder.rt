@@ -6,6 +6,7 @@
 //! they show of a file that no clause names afterwards. For the system's files each method is one call of the standard library; that
 //! these calls do what they are asked is trusted.
 ghost use Rattle.std.specs.Io.{ReadsAtMost, WritesAtMost};
+ghost use Rattle.std.specs.Io.KnownBytes.{ReadConsumes, WriteAppends};
 ghost use Rattle.std.specs.Prelude.{Option, None};
 ghost use Rattle.trau_files.specs.Folder.{Operations};
 ghost use Rattle.trau_files.specs.Honest.{IsHonest};
@@ -90,8 +91,8 @@ impl<'a, R: Files + AllocGlobal> Folder for &'a R {
       described = λ folder name result. Unit {0};
       entry_described = λ folder name result. Unit {0};
       went = λ old new at result. Unit {0};
-      gave = λ folder old new result buf. Unit {0};
-      took = λ before after old new result bytes. Unit {0};
+      gave = λ folder old new result buf. ReadConsumes (R.File.remaining old) (R.File.remaining new) result buf;
+      took = λ before after old new result bytes. WriteAppends (R.File.contents old) (R.File.contents new) result bytes;
       emptied = λ before after old new result. Unit {0};
       closed = λ before after file. Unit {0};
     } };

@@ -97,6 +97,7 @@ impl<D: Folder> Claims<D> {
         ensures apart { AreApart self.new }
         ensures others { OthersKeep self.old self.new (index_of_line line.call line.side) }
     {
+        // (The proof knows the lines' invariant only where the body names them.)
         let _ = &self.of_lines;
         if !metadata.is_file() {
             return Ok(());
