@@ -13,6 +13,7 @@ failed=0
 
 # programs: the files outside of the package, in git's list, that Python runs, but for the benchmarks'
 programs() {
+    echo setup.py
     git ls-files -- tools gateway model clib checks | while read -r file; do
         case $file in
         */tests/*) ;;

@@ -98,6 +98,13 @@ class Checks(InFolder):
             (status, err), (2, f"gateway.py: {program} run ended with status 1: out of order\n")
         )
 
+    def test_a_program_that_isnt_there(self):
+        folder, program = self.record(20), self.folder / "program"
+        status, _, err = self.run_tool(gateway.main, ["check", str(folder), "--trau", str(program)])
+        other = "--trau names another, as trau-model, the model, which is slow"
+        said = f"gateway.py: {program}: No such file or directory; {other}\n"
+        self.assertEqual((status, err), (2, said))
+
     def killed(self, every):
         """A recording of a gateway that was killed: clock.txt doesn't say that it ended."""
         folder = self.record()
@@ -214,7 +221,8 @@ class Ends(InFolder):
         self.assertEqual(
             (ran.returncode, ran.stdout, ran.stderr.count("\n")), (2, "", 1), ran.stderr
         )
-        self.assertIn("clib/build makes it", ran.stderr)
+        where = "clib/build of a clone makes it, and Debian's package libtrau-fr1 has it"
+        self.assertIn(where, ran.stderr)
 
     def test_an_old_folder(self):
         status, _, err = self.run_tool(gateway.main, ["run", str(self.folder)])

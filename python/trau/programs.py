@@ -8,6 +8,9 @@ import sys
 import traceback
 from functools import partial
 
+# Those for users: pip (pyproject.toml) and the packages install each as trau-NAME.
+COMMANDS = ("lines", "orders", "report", "shard", "timeline", "watch", "gateway", "model")
+
 # The status after an exception that nobody foresaw (EX_SOFTWARE of sysexits.h).
 UNFORESEEN = 70
 

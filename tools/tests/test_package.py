@@ -20,8 +20,14 @@ from trau.packing import man_pages
 from trau.packing import trau_deb
 from trau.packing import trau_package
 
-# Without TRAU_PROGRAM no program is packed, so that these tests prove nothing.
-HAS_PROGRAM = os.access(os.environ.get("TRAU_PROGRAM", ""), os.X_OK)
+
+def is_program(name):
+    """Whether this is a built program, which can be packed."""
+    return os.access(name, os.X_OK) and Path(name).read_bytes().startswith(trau_deb.ELF)
+
+
+# Without TRAU_PROGRAM no program is packed, so that these tests prove nothing. Nor is the model.
+HAS_PROGRAM = is_program(os.environ.get("TRAU_PROGRAM", ""))
 
 
 def is_built(kind):
@@ -30,6 +36,7 @@ def is_built(kind):
 
 
 SECOND = f"trau_program.{trau_package.KIND}"
+COMMANDS = ("trau", *trau_package.COMMANDS)
 
 
 class Built(NamedTuple):
@@ -88,37 +95,27 @@ class Versions(unittest.TestCase):
 
 
 class Modules(unittest.TestCase):
-    def test_all_commands_are_installed(self):
+    def test_all_commands_are_linked(self):
         # `install` links what has a man page, and so does dpkg.
-        wanted = {f"trau-{tool[:-3]}": f"tools/{tool}" for tool in trau_package.TOOLS}
-        wanted = {"trau": "trau", **wanted, "trau-gateway": "gateway/gateway.py"}
-        names = re.search(r'^names="(.*?)"$', (TOOLS / "install").read_text(), re.M | re.S)[1]
-        self.assertEqual(dict(pair.split(":") for pair in names.split()), wanted)
-        links = trau_deb.links({f"usr/share/man/man1/{name}.1.gz": b"" for name in wanted})
-        self.assertEqual(
-            {name: links[f"usr/bin/{name}"] for name in wanted},
-            {name: f"../lib/trau/{file}" for name, file in wanted.items()},
-        )
+        pages = {f"usr/share/man/man1/{name}.1.gz": b"" for name in COMMANDS}
+        wanted = {f"usr/bin/{name}": f"../lib/trau/python/{name}" for name in COMMANDS[1:]}
+        wanted["usr/bin/trau"] = "../lib/trau/trau"
+        links = trau_deb.links(pages)
+        self.assertEqual({name: links[name] for name in links if "/bin/" in name}, wanted)
 
-    def test_all_that_the_tools_import_is_packed(self):
+    def test_what_the_scripts_read_is_packed(self):
         packed = {
             path.name
             for path in TOOLS.iterdir()
-            if re.fullmatch(trau_package.FOLDERS[0][1], path.name)
+            if re.fullmatch(trau_package.FOLDERS["tools"], path.name)
         }
         self.assertLessEqual(
-            {*trau_package.TOOLS, "help.txt", "pages.txt", "grammar.txt", "bad_order.awk"}, packed
+            {"report.py", "orders.py", "help.txt", "pages.txt", "grammar.txt", "bad_order.awk"},
+            packed,
         )
-        for name in sorted(packed):
-            if name.endswith(".py"):
-                for found in re.findall(
-                    r"^(?:from|import) (\w+)", (TOOLS / name).read_text(), re.M
-                ):
-                    if (TOOLS / f"{found}.py").is_file():
-                        self.assertIn(f"{found}.py", packed, name)
 
 
-@unittest.skipUnless(HAS_PROGRAM, "TRAU_PROGRAM names no program")
+@unittest.skipUnless(HAS_PROGRAM, "TRAU_PROGRAM names no built program")
 class Package(InFolder):
     @classmethod
     def setUpClass(cls):
@@ -194,6 +191,10 @@ class Package(InFolder):
             "docs/CHANGELOG.md",
         ):
             self.assertIn(name, names)
+        modules = trau_package.git("ls-files", "python/trau").splitlines()
+        self.assertEqual(sorted(name for name in names if name.startswith("python/trau/")), modules)
+        for name in modules:
+            self.assertEqual((package / name).read_bytes(), (TOP / name).read_bytes(), name)
         self.assertEqual(SECOND in names, self.built.second)
         self.assertFalse((package / "crates" / "trau_program").exists())
 
@@ -247,7 +248,7 @@ class Package(InFolder):
         self.assertIn("octet for octet what is recorded in examples/farm/wanted", out)
         self.assertEqual(self.said(package / "demo", "--unproved")[0], 2)
         # What its README says of the model is of a clone.
-        said = "demo: a package has no model; demo without --model runs the package's program\n"
+        said = "demo: --model is of a clone; demo without it runs the package's program\n"
         self.assertEqual(self.said(package / "demo", "--model"), (2, "", said))
         self.assertRegex(
             (package / "README.md").read_text(),
@@ -319,8 +320,14 @@ class Package(InFolder):
             self.said(prefix / "bin" / "trau-lines", "idle", "3", "9.pcm"),
             (0, "idle periods 3\n", ""),
         )
-        for tool in ("gateway", "report", "shard", "timeline", "watch"):
-            self.assertEqual(self.said(prefix / "bin" / f"trau-{tool}", "--help")[0], 0)
+        down = (self.folder / "7.down").read_bytes()
+        model = prefix / "bin" / "trau-model"
+        self.assertEqual(self.said(model, "relay", "7"), (0, "relay frames 312\n", ""))
+        self.assertEqual((self.folder / "7.down").read_bytes(), down)
+        self.assertEqual({path.name for path in (prefix / "bin").iterdir()}, set(COMMANDS))
+        for name in trau_package.COMMANDS:
+            status, out, err = self.said(prefix / "bin" / name, "--help", PYTHONSAFEPATH="1")
+            self.assertEqual((status, out.partition(f"usage: {name} ")[0], err), (0, "", ""))
         pages = prefix / "share" / "man" / "man1"
         self.assertIn(".TH TRAU 1", (pages / "trau.1").read_text())
         self.assertIn("trau\\-lines [\\-h] COMMAND", (pages / "trau-lines.1").read_text())
@@ -344,6 +351,17 @@ class Package(InFolder):
             ["bin/other"],
         )
         self.assertEqual(list((prefix / "bin").iterdir()), [prefix / "bin" / "other"])
+
+    def test_over_an_earlier_package(self):
+        # Its commands led to other files of lib/trau.
+        package, prefix = self.unpack(), self.folder / "prefix"
+        install, link = package / "install", prefix / "bin" / "trau-lines"
+        self.assertEqual(self.said(install, "--prefix", prefix)[0], 0)
+        for words, leads_to in (([], "../lib/trau/python/trau-lines"), (["--remove"], None)):
+            link.unlink()
+            link.symlink_to("../lib/trau/tools/lines.py")
+            self.assertEqual(self.said(install, *words, "--prefix", prefix)[::2], (0, ""))
+            self.assertEqual(os.readlink(link) if link.is_symlink() else None, leads_to)
 
     def test_where_nothing_can_be_written(self):
         package, prefix = self.unpack(), self.folder / "prefix"
@@ -493,7 +511,7 @@ class Package(InFolder):
             self.assertIn(part, ended.stderr)
 
 
-@unittest.skipUnless(HAS_PROGRAM, "TRAU_PROGRAM names no program")
+@unittest.skipUnless(HAS_PROGRAM, "TRAU_PROGRAM names no built program")
 @unittest.skipUnless(shutil.which("dpkg-deb"), "dpkg isn't installed")
 class Debian(InFolder):
     @classmethod
@@ -638,6 +656,7 @@ class Debian(InFolder):
             (["trau", "help", "relay"], "trau relay C"),
             (["trau-lines", "--help"], "usage: trau-lines "),
             (["trau-watch", "--help"], "usage: trau-watch "),
+            (["trau-model", "--help"], "usage: trau-model "),
             (["trau-gateway", "run", "--help"], "usage: trau-gateway run "),
             ([root / "usr" / "lib" / "trau" / "demo"], "Four calls"),
         ):
@@ -650,22 +669,30 @@ class Debian(InFolder):
                 (words, ended.stdout, ended.stderr),
             )
         self.assertEqual(list(root.rglob("*.pyc")), [])
-        for name in (
-            "trau",
-            "trau-gateway",
-            "trau-lines",
-            "trau-orders",
-            "trau-report",
-            "trau-shard",
-            "trau-timeline",
-            "trau-watch",
-        ):
+        for name in COMMANDS:
             self.assertTrue((root / "usr" / "bin" / name).exists(), name)
             page = gzip.decompress(
                 (root / "usr" / "share" / "man" / "man1" / f"{name}.1.gz").read_bytes()
             ).decode()
             self.assertTrue(page.startswith(f".TH {name.upper()} 1 "))
         self.assertTrue((root / "usr" / "lib" / "trau" / "docs" / "FILES.md").is_file())
+        modules = trau_package.git("ls-files", "python/trau").splitlines()
+        home = root / "usr" / "lib" / "trau"
+        self.assertEqual([name for name in modules if not (home / name).is_file()], [])
+
+    def test_nothing_compiled_stays(self):
+        # The script that dpkg runs before it removes the files, here of another folder.
+        compiled = self.folder / "python" / "trau" / "__pycache__"
+        compiled.mkdir(parents=True)
+        (compiled / "module.pyc").write_text("")
+        control = self.folder / "control"
+        subprocess.run(["dpkg-deb", "-e", self.made["trau"], control], check=True)
+        prerm = (control / "prerm").read_text()
+        self.assertTrue(os.access(control / "prerm", os.X_OK))
+        here = prerm.replace("/usr/lib/trau/python", str(self.folder / "python"))
+        self.assertNotEqual(here, prerm)
+        subprocess.run(["sh", "-c", here], check=True)
+        self.assertEqual(list((self.folder / "python").rglob("*")), [compiled.parent])
 
     def test_the_same_octets_again(self):
         made, again = twice(self)
@@ -730,21 +757,28 @@ class TheLibrary(InFolder):
             self.assertEqual(trau_package.origin(), "with a C library that TRAU_CLIB named")
 
 
+class WhatIsPacked(unittest.TestCase):
+    def test_the_model_isnt(self):
+        model = str(TOP / "model" / "trau")
+        with mock.patch.dict(os.environ, TRAU_PROGRAM=model):
+            with self.assertRaisesRegex(trau_deb.Refusal, f"{model}: isn't a built program"):
+                trau_package.proved_programs()
+
+
 @unittest.skipUnless(shutil.which("groff"), "groff-base isn't installed")
 class ManPagesOfTools(unittest.TestCase):
     def test_no_warnings(self):
-        for tool in (*trau_package.TOOLS, trau_package.GATEWAY):
-            name = f"trau-{tool[:-3]}"
+        for name, tool in trau_package.COMMANDS.items():
             page = man_pages.man_page(name, "trau x", "2026-01-01")
             ended = subprocess.run(
                 ["groff", "-man", "-ww", "-Tascii", "-P-cbou"],
                 input=page.encode(),
                 capture_output=True,
             )
-            self.assertEqual((ended.returncode, ended.stderr), (0, b""), tool)
+            self.assertEqual((ended.returncode, ended.stderr), (0, b""), name)
             text = " ".join(ended.stdout.decode().split())
             self.assertIn(f"{name.upper()}(1)", text)
-            self.assertNotIn(tool, text)
+            self.assertNotIn(f"{tool}.py", text)
 
 
 if __name__ == "__main__":

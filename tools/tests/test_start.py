@@ -1477,7 +1477,7 @@ class TheModel(Started):
         program = self.top / "trau_program"
         program.write_text("#!/bin/sh\necho the package\n")
         program.chmod(0o755)
-        said = "demo: a package has no model; demo without --model runs the package's program\n"
+        said = "demo: --model is of a clone; demo without it runs the package's program\n"
         self.assertEqual(self.trau("--model", name="demo"), (2, "", said))
         self.assertTrue(
             self.trau(name="demo", TRAU_PROGRAM="model")[1].startswith(

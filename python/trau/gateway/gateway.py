@@ -33,7 +33,8 @@ def missing_library() -> str:
     try:
         importlib.import_module("trau.trau_fr")
     except (ImportError, OSError) as failure:
-        return f"the C library is missing: {failure}; clib/build makes it"
+        made = "clib/build of a clone makes it, and Debian's package libtrau-fr1 has it"
+        return f"the C library is missing: {failure}; {made}"
     return ""
 
 

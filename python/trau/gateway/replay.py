@@ -139,7 +139,9 @@ def replayed(program: str, again: Path, orders: List[Order], end: Optional[int])
             words, cwd=again, input=given, stdout=subprocess.PIPE, env=listening.from_here()
         )
     except OSError as failure:
-        raise Refusal(f"{program}: {failure.strerror}") from None
+        other = "; --trau names another, as trau-model, the model, which is slow"
+        is_missing = isinstance(failure, FileNotFoundError)
+        raise Refusal(f"{program}: {failure.strerror}{other if is_missing else ''}") from None
     report = again / "report.txt"
     report.write_bytes(ran.stdout)
     if ran.returncode:

@@ -31,11 +31,12 @@ MACHINES = {"x86_64": "amd64", "aarch64": "arm64"}
 LIBRARIES = f"usr/lib/{os.uname().machine}-linux-gnu"
 BUILT = "clib/out/"
 
-# The first lines of tools: in the repository, in a tarball and in Debian's package. A packed tool
-# keeps nothing compiled: it would lie among the package's files, and stay when they are removed.
-PYTHON = b"#!/usr/bin/env python3\n"
-PACKED_PYTHON = b"#!/usr/bin/env -S python3 -B\n"
-SYSTEMS_PYTHON = b"#!/usr/bin/python3 -B\n"
+# How the first lines of programs begin in a tarball and in Debian's package. A packed program keeps
+# nothing compiled: it would lie among the package's files, and stay when they are removed.
+PACKED_PYTHON = b"#!/usr/bin/env -S python3 -B"
+SYSTEMS_PYTHON = b"#!/usr/bin/python3 -B"
+# How a built program begins.
+ELF = b"\x7fELF"
 
 # Of the C library that the program is linked with.
 DEPENDS = "libc6 (>= 2.34)"
@@ -100,6 +101,13 @@ Copyright {year} {author}
 
 # For lintian: the program is packed as it was proved and built, octet for octet.
 OVERRIDE = "trau: unstripped-binary-or-object [{}]\n"
+
+# What dpkg does before the programs go: what Python compiled, where the superuser imported the
+# package, would stay.
+PRERM = """#!/bin/sh
+set -e
+find /usr/lib/trau/python -name __pycache__ -prune -exec rm -rf {} +
+"""
 
 # What dpkg does once a library has come, and how packages that are built with it depend on it.
 TRIGGERS = "activate-noawait ldconfig\n"
@@ -170,8 +178,8 @@ def place(name: str, content: bytes) -> Tuple[str, bytes]:
         name.endswith((".md", ".svg"))
     ):
         return f"{DOCUMENTS}/{name}", content
-    if name.endswith(".py"):
-        content = content.replace(PACKED_PYTHON, SYSTEMS_PYTHON, 1)
+    if content.startswith(PACKED_PYTHON):
+        content = SYSTEMS_PYTHON + content[len(PACKED_PYTHON) :]
     return f"{HOME}/{name}", content
 
 
@@ -185,12 +193,11 @@ def common(name: str, author: str, year: str) -> Dict[str, bytes]:
 
 
 def links(found: Dict[str, bytes]) -> Dict[str, str]:
-    """The links of the package, by their paths: the commands, and the documents beside the
-    scripts."""
+    """The links of the package, by their paths: the commands, which have man pages, and the
+    documents beside the scripts."""
     pages = (Path(name).name[: -len(".1.gz")] for name in found if name.endswith(".1.gz"))
-    others = {"trau": "trau", "trau-gateway": "gateway/gateway.py"}
     commands = {
-        f"usr/bin/{name}": f"../lib/trau/{others.get(name, f'tools/{name[5:]}.py')}"
+        f"usr/bin/{name}": f"../lib/trau/{'trau' if name == 'trau' else f'python/{name}'}"
         for name in pages
     }
     return {**commands, f"{HOME}/docs": "../../share/doc/trau/docs"}
@@ -204,9 +211,10 @@ def program(files: Dict[str, bytes]) -> Package:
         for name, content in files.items()
         if name not in others and not name.startswith(BUILT)
     )
-    programs = sorted(path for path, content in found.items() if content.startswith(b"\x7fELF"))
+    programs = sorted(path for path, content in found.items() if content.startswith(ELF))
     found["usr/share/lintian/overrides/trau"] = "".join(map(OVERRIDE.format, programs)).encode()
-    return Package("trau", PROGRAM, PROGRAM_DESCRIPTION, found, links(found))
+    control = {"prerm": PRERM}
+    return Package("trau", PROGRAM, PROGRAM_DESCRIPTION, found, links(found), control)
 
 
 def symbols(header: str, version: str) -> str:
@@ -257,7 +265,7 @@ def lay(root: Path, files: Dict[str, bytes], links: Dict[str, str]) -> None:
         path = root / name
         path.parent.mkdir(parents=True, exist_ok=True)
         path.write_bytes(content)
-        runs = content.startswith((b"#!", b"\x7fELF")) and ".so" not in path.name
+        runs = content.startswith((b"#!", ELF)) and ".so" not in path.name
         path.chmod(0o755 if runs else 0o644)
     for name, target in links.items():
         (root / name).parent.mkdir(parents=True, exist_ok=True)
@@ -307,7 +315,7 @@ def packed(package: Package, author: str, seconds: int) -> Tuple[str, bytes]:
         (root / "DEBIAN").mkdir()
         for name, text in {"control": control, "md5sums": sums, **package.control}.items():
             (root / "DEBIAN" / name).write_text(text)
-            (root / "DEBIAN" / name).chmod(0o644)
+            (root / "DEBIAN" / name).chmod(0o755 if text.startswith("#!") else 0o644)
         octets = built(root, Path(folder) / "made.deb", seconds)
     return f"{package.name}_{version}_{machine}.deb", octets
 

@@ -1,6 +1,6 @@
 """Packs the proved program: a tarball with the program for x86-64-v2 and for x86-64-v3, the scripts, man pages, word completion for bash,
-the documents, the examples, the tools, the gateway, the C library, SHA256SUMS and a script `install`. With --deb it makes Debian packages
-too. The installed program needs only the system's C library; the tools need Python 3.
+the documents, the examples, the Python package with its commands, the C library, SHA256SUMS and a script `install`. With --deb it makes
+Debian packages too. The installed program needs only the system's C library; the other commands need Python 3.
 
 tools/build.py proves and builds the programs, and clib/build the library; both come first if a source changed. If TRAU_PROGRAM names the program,
 or there is no C compiler, a library that isn't built yet is left out, as --without-library leaves out any. The same sources, program and
@@ -19,6 +19,7 @@ import tarfile
 from pathlib import Path
 from typing import Dict, NamedTuple, Sequence
 
+from trau import programs
 from trau.packing import man_pages
 from trau.packing import trau_deb
 from trau.packing import trau_words
@@ -47,18 +48,27 @@ LIBRARY_FILES = (
 )
 
 SCRIPTS = ("trau", "demo")
-TOOLS = ("lines.py", "orders.py", "report.py", "shard.py", "timeline.py", "watch.py")
-GATEWAY = "gateway.py"
-# What is packed of folders: the files that git knows there and that have such names, and those of
-# them that run. Of tools/ it isn't what proves, builds and packs; tests/data has recordings that
-# the commands in the documents take.
-FOLDERS = (
-    ("tools", r"(?!build|trau_)\w+\.(py|txt|awk)", TOOLS),
-    ("python/trau", r"(?!packing/|model/).*\.(py|js)", ()),
-    ("gateway", r"(?!tests/).*", (GATEWAY,)),
-    ("examples", r"README\.md|7\.up|farm/(\d+\.(up|pcm)|orders\.txt|wanted/[\w.]+)", ()),
-    ("tools/tests/data", r".*", ()),
-)
+# The commands of the Python package, as pip installs them. Each is a file beside it, in the folder
+# in which Python then looks for it first, whatever the environment says (-E).
+COMMANDS = {f"trau-{name}": name for name in programs.COMMANDS}
+COMMAND_TEXT = """{python}E
+import sys
+
+from trau.programs import {name}
+
+sys.exit({name}())
+"""
+# What is packed of folders: the files that git knows there and that have such names. Of tools/ it
+# isn't what proves, builds and packs; tests/data has recordings that commands in documents take.
+FOLDERS = {
+    "tools": r"(?!build|trau_)\w+\.(py|txt|awk)",
+    "python/trau": r".*",
+    "gateway": r"(?!tests/).*",
+    "examples": r"README\.md|7\.up|farm/(\d+\.(up|pcm)|orders\.txt|wanted/[\w.]+)",
+    "tools/tests/data": r".*",
+}
+# The first line of a program in the repository.
+PYTHON = b"#!/usr/bin/env python3\n"
 
 
 class PackagedFile(NamedTuple):
@@ -105,7 +115,7 @@ def is_built(kind: str) -> bool:
     return subprocess.run([TOP / "trau"], env={**os.environ, "TRAU_IS_BUILT": kind}).returncode == 0
 
 
-def programs() -> Dict[str, bytes]:
+def proved_programs() -> Dict[str, bytes]:
     """The programs by their names in the package: the one for x86-64-v2, which any machine runs,
     and the one for the other kind. Unless TRAU_PROGRAM names one, tools/build.py proves and builds
     both, if one of them isn't built."""
@@ -117,6 +127,8 @@ def programs() -> Dict[str, bytes]:
     if not named and not is_built(FIRST):
         raise Refusal("there is no program that is proved and built")
     found = {PROGRAM.name: read_file(Path(named or PROGRAM))}
+    if not found[PROGRAM.name].startswith(trau_deb.ELF):
+        raise Refusal(f"{named or PROGRAM}: isn't a built program")
     if is_given():
         return found
     if is_built(KIND):
@@ -203,26 +215,42 @@ def documents() -> Dict[str, Path]:
     return found
 
 
+def commands(state: State) -> Dict[str, PackagedFile]:
+    """The commands of the Python package, and the man pages of all commands."""
+    version = f"trau {state.commit}"
+    pages = {"trau": trau_words.man_page(version, state.date)}
+    found = {}
+    for command, name in COMMANDS.items():
+        pages[command] = man_pages.man_page(command, version, state.date)
+        text = COMMAND_TEXT.format(python=trau_deb.PACKED_PYTHON.decode(), name=name)
+        found[f"python/{command}"] = PackagedFile(text.encode(), True)
+    found.update((f"man/{name}.1", PackagedFile(page.encode())) for name, page in pages.items())
+    return found
+
+
+def of_folders() -> Dict[str, PackagedFile]:
+    """What is packed of folders. Their programs keep nothing compiled."""
+    found = {}
+    for folder, packed in FOLDERS.items():
+        for name, path in files_below(TOP / folder).items():
+            if re.fullmatch(packed, name):
+                content = read_file(path)
+                runs = content.startswith(PYTHON)
+                if runs:
+                    content = trau_deb.PACKED_PYTHON + b"\n" + content[len(PYTHON) :]
+                found[f"{folder}/{name}"] = PackagedFile(content, runs)
+    return found
+
+
 def members(state: State, library: Dict[str, bytes]) -> Dict[str, PackagedFile]:
     """The files of the package, by their names in it, with these of the C library."""
     found = {name: PackagedFile(read_file(TOP / name), True) for name in SCRIPTS}
     found["install"] = PackagedFile(read_file(TOP / "tools" / "install"), True)
-    found.update((name, PackagedFile(content, True)) for name, content in programs().items())
+    found.update((name, PackagedFile(content, True)) for name, content in proved_programs().items())
     found["VERSION"] = PackagedFile(f"trau {state.commit} of {state.date}, {origin()}\n".encode())
-    found["man/trau.1"] = PackagedFile(
-        trau_words.man_page(f"trau {state.commit}", state.date).encode()
-    )
-    for script in (*TOOLS, GATEWAY):
-        name = f"trau-{Path(script).stem}"
-        found[f"man/{name}.1"] = PackagedFile(
-            man_pages.man_page(name, f"trau {state.commit}", state.date).encode()
-        )
     found["trau.bash"] = PackagedFile(trau_words.completion().encode())
-    for folder, packed, running in FOLDERS:
-        for name, path in files_below(TOP / folder).items():
-            if re.fullmatch(packed, name):
-                content = read_file(path).replace(trau_deb.PYTHON, trau_deb.PACKED_PYTHON, 1)
-                found[f"{folder}/{name}"] = PackagedFile(content, name in running)
+    found.update(commands(state))
+    found.update(of_folders())
     found.update((name, PackagedFile(content)) for name, content in library.items())
     found["clib/with"] = PackagedFile(read_file(TOP / "clib" / "with"), True)
     for name, path in documents().items():

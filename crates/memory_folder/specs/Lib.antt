@@ -1,0 +1,4 @@
+-- Files in memory, and that a folder of them is honest.
+pub mod Honest
+pub mod Memory
+pub mod Sizes
