@@ -6,7 +6,7 @@ set -eu
 # shellcheck source=checks/program
 . "$(dirname "$0")/program"
 
-unit_tests "$top/model/tests"
+unit_tests "$top/model/tests" "$(nproc)"
 
 # The documents' sessions start `trau`, which is the model here.
 set -- docs/FILES.md docs/OPERATORS.md docs/COMMANDS.md

@@ -6,7 +6,7 @@ set -eu
 . "$(dirname "$0")/program"
 
 case ${1:-} in
-'') unit_tests "$top/tools/tests" ;;
+'') unit_tests "$top/tools/tests" "$(nproc)" ;;
 --long) long_tests "$top/tools/tests" ;;
 *)
     echo "usage: checks/tools.sh [--long]" >&2

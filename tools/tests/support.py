@@ -41,6 +41,11 @@ def has_locks():
 HAS_LOCKS = has_locks()
 
 
+def is_program(name):
+    """Whether this is a built program; the model is a script."""
+    return os.access(name, os.X_OK) and Path(name).read_bytes().startswith(b"\x7fELF")
+
+
 def frames_of_downlink(bits):
     """The frames of a downlink, wherever they begin, each with its time bits where it has them."""
     return (found.group() for found in FRAME_OF_DOWNLINK.finditer(bits))

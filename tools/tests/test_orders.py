@@ -475,7 +475,9 @@ class LevelOfATone(InFolder):
         with mock.patch.object(tone_peaks, "peaks_of_tone", lambda *_: [32000, 32767]):
             self.assertTrue(self.said("3", "1000").endswith("speech to 32000 silence never\n"))
 
-    @unittest.skipUnless(os.access(PROGRAM, os.X_OK), "TRAU_PROGRAM names no program")
+    @unittest.skipUnless(
+        support.is_program(PROGRAM), "no program is built, and by the model this takes many minutes"
+    )
     def test_by_the_program(self):
         # A second of the tone, at some phase, and its downlink with DTX: at the first number all frames are speech, at the other none is.
         chance = random.Random(1)
@@ -507,7 +509,9 @@ class LevelOfATone(InFolder):
             self.assertEqual(kinds, [{"1"}, {"0"}], words)
 
 
-@unittest.skipUnless(os.access(PROGRAM, os.X_OK), "TRAU_PROGRAM names no program")
+@unittest.skipUnless(
+    support.is_program(PROGRAM), "no program is built, and by the model this takes many minutes"
+)
 class AgainstTheProgram(InFolder):
     def run_program(self, content, command="run"):
         """What the program says of these orders, run in the folder."""

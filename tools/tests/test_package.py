@@ -14,16 +14,11 @@ from pathlib import Path
 from typing import NamedTuple
 from unittest import mock
 
-from support import EXAMPLES, PLAIN_PATH, TOOLS, TOP, InFolder, put_python
+from support import EXAMPLES, PLAIN_PATH, TOOLS, TOP, InFolder, is_program, put_python
 
 from trau.packing import man_pages
 from trau.packing import trau_deb
 from trau.packing import trau_package
-
-
-def is_program(name):
-    """Whether this is a built program, which can be packed."""
-    return os.access(name, os.X_OK) and Path(name).read_bytes().startswith(trau_deb.ELF)
 
 
 # Without TRAU_PROGRAM no program is packed, so that these tests prove nothing. Nor is the model.
