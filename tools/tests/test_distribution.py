@@ -17,8 +17,7 @@ from trau import programs
 from trau.packing import trau_deb, trau_package
 
 COMMANDS = trau_package.COMMANDS
-NEEDED = {"ensurepip": "python3-venv", "setuptools": "python3-setuptools", "wheel": "python3-wheel"}
-MISSING = [package for name, package in NEEDED.items() if not importlib.util.find_spec(name)]
+HAS_PIP = all(map(importlib.util.find_spec, ("ensurepip", "setuptools", "wheel")))
 # The environment of a user, to whom the clone means nothing.
 PLAIN = {name: value for name, value in os.environ.items() if not name.startswith("PYTHON")}
 # The folders of small program files, which find the package by sys.path.
@@ -69,7 +68,7 @@ class ThePath(unittest.TestCase):
         self.assertEqual(elsewhere, set())
 
 
-@unittest.skipIf(MISSING, f"{', '.join(MISSING)} isn't installed")
+@unittest.skipUnless(HAS_PIP, "python3-venv, python3-setuptools or python3-wheel isn't installed")
 class Installed(InFolder):
     @classmethod
     def setUpClass(cls):
