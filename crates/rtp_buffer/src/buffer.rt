@@ -141,6 +141,7 @@ impl<const N: usize> Buffer<N> {
             (waits whole : Bool) × SaysWaits self.old.store.slots period waits × SaysKnown self.old.store.slots period 0 N whole ×
             (self.new.pace ≡ (wished self.old.pace waits whole tick).0) × (result ≡ (wished self.old.pace waits whole tick).1) × (self.new.store ≡ self.old.store) }
         ensures depth { self.new.pace.depth ≡ self.old.pace.depth }
+        ensures newest { self.new.newest ≡ self.old.newest }
         ensures ahead { (period k : ℕ) → is_before period (period_at self.old.pace tick) ≡ false → place self.new.store.slots period k ≡ place self.old.store.slots period k }
     {
         let period = self.period_at(tick);
@@ -171,6 +172,7 @@ impl<const N: usize> Buffer<N> {
     /// Makes a slip that is owed: leaves out this tick's period, or plays the one before it again.
     pub fn slip(&mut self, tick: u32)
         ensures pace { self.new.pace ≡ slipped self.old.pace tick }
+        ensures newest { self.new.newest ≡ self.old.newest }
         ensures stands { (deeds : List Deed) → Stands deeds self.old.store.slots →
             Stands deeds self.new.store.slots ⊎ Stands (LeaveOut (period_at self.old.pace tick) ∷ deeds) self.new.store.slots }
         ensures on { (count : ℕ) → self.old.pace.owed ≡ Owed.On count → (k : ℕ) →
@@ -188,6 +190,7 @@ impl<const N: usize> Buffer<N> {
     /// What is played at a tick.
     pub fn take(&mut self, tick: u32, filler: u8) -> [u8; N]
         ensures pace { self.new.pace ≡ self.old.pace }
+        ensures newest { self.new.newest ≡ self.old.newest }
         ensures heard { (k : ℕ) → k < N → slice_index result k ≡ heard (place self.old.store.slots (period_at self.old.pace tick) k) filler }
         ensures own { (k : ℕ) → place self.new.store.slots (period_at self.old.pace tick) k ≡ after_taking (place self.old.store.slots (period_at self.old.pace tick) k) }
         ensures others { (other k : ℕ) → other ≢ period_at self.old.pace tick → place self.new.store.slots other k ≡ place self.old.store.slots other k }
@@ -204,6 +207,7 @@ impl<const N: usize> Buffer<N> {
     /// The clock has given up so many periods: what would have been played in them is left out.
     pub fn give_up(&mut self, periods: u32, tick: u32)
         ensures pace { self.new.pace ≡ given_up self.old.pace periods }
+        ensures newest { self.new.newest ≡ self.old.newest }
         ensures ahead { (period k : ℕ) → is_before period (period_at self.new.pace tick) ≡ false → place self.new.store.slots period k ≡ place self.old.store.slots period k }
         ensures stands { (deeds : List Deed) → Stands deeds self.old.store.slots → Stands (LeaveOutBefore (period_at self.new.pace tick) ∷ deeds) self.new.store.slots }
     {

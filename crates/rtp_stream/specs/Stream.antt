@@ -4,6 +4,7 @@ use Rattle.rtp_packet.specs.declared.header.Header.{Header}
 use Rattle.rtp_buffer.specs.declared.pace.Pace.{Pace}
 use Rattle.rtp_buffer.specs.Watch.{on, back}
 use Rattle.rtp_buffer.specs.Pace.{wait_of, is_late, pace_home, followed}
+use Rattle.rtp_buffer.specs.Buffer.{period_at}
 use Rattle.rtp_stream.specs.declared.place.Place.{Place}
 use Rattle.rtp_stream.specs.declared.track.Next.{Next}
 use Rattle.rtp_stream.specs.declared.track.GivenUp.{GivenUp}
@@ -144,4 +145,5 @@ reception_after stream before header tick behind = counted before header.sequenc
 -- nothing is held or was played, and what comes next waits `depth` ticks from this tick on
 pub record BeginsAt {N : ℕ} (stream : Stream N) (depth tick : ℕ) : Type 0 where
   pub pace : stream.buffer.pace ≡ pace_home depth tick
+  pub newest : stream.buffer.newest ≡ back (period_at stream.buffer.pace tick) 1
   pub store : (period k : ℕ) → place stream.buffer.store.slots period k ≡ Missing

@@ -1,11 +1,13 @@
 //! The octets of a payload, laid over the periods of a jitter buffer.
 
-ghost use Rattle.std.specs.Prelude.{◌≡◌, ◌<◌, ◌≤◌, ◌+◌, ◌*◌, ℕ, if◌then◌else◌, ◌==◌, length};
+ghost use Rattle.std.specs.Prelude.{◌≡◌, ◌≢◌, ◌⊎◌, ◌<◌, ◌≤◌, ◌+◌, ◌-◌, ◌*◌, ◌^◌, ℕ, ◌&&◌, if◌then◌else◌, ◌==◌, min, List, length};
 ghost use Rattle.rtp_buffer.specs.Octets.{came};
 ghost use Rattle.rtp_buffer.specs.Store.{place, IsNear};
+ghost use Rattle.rtp_buffer.specs.History.{Deed, Stands};
 ghost use Rattle.rtp_buffer.specs.Watch.{on};
 ghost use Rattle.rtp_buffer.specs.Pace.{wait_of};
-ghost use Rattle.rtp_stream.specs.Payload.{octets_before, with_payload, IsLaid, IsKeptBefore};
+ghost use Rattle.rtp_buffer.specs.Buffer.{newest_wait};
+ghost use Rattle.rtp_stream.specs.Payload.{octets_before, with_payload, IsLaid, IsKeptBefore, start_of, octets_of, with_put, with_periods, most_periods, told};
 
 use rtp_buffer::{Buffer, Outcome};
 
@@ -23,7 +25,11 @@ pub struct Laid {
 
 impl Laid {
     // With one period more.
-    fn with(self, outcome: Outcome) -> Laid {
+    fn with(self, outcome: Outcome) -> Laid
+        ensures taken { outcome ≡ Outcome.Taken → result ≡ self }
+        ensures late { outcome ≡ Outcome.Late → result ≡ record self { late = min (self.late + 1) (2 ^ 32 - 1) } }
+        ensures doubled { outcome ≡ Outcome.Doubled → result ≡ record self { doubled = min (self.doubled + 1) (2 ^ 32 - 1) } }
+    {
         match outcome {
             Outcome::Taken => self,
             Outcome::Late => Laid {
@@ -46,7 +52,9 @@ fn start_in(n: u32, part: usize) -> usize
 }
 
 // Whether the n-th period of a payload says something about the path: only the first one does.
-fn is_told_by(n: u32, is_watched: bool) -> bool {
+fn is_told_by(n: u32, is_watched: bool) -> bool
+    ensures { result ≡ (is_watched && (n == 0)) }
+{
     is_watched && n == 0
 }
 
@@ -69,6 +77,11 @@ fn lay_period<const N: usize>(
     ensures own { (k : ℕ) → k < N → place buffer.new.store.slots (on first n) k ≡
         with_payload (wait_of buffer.old.pace (on first n) tick) (place buffer.old.store.slots (on first n) k) (came part payload.now (length payload.now) (n * N + k)) }
     ensures others { (other k : ℕ) → IsNear (on first n) other → place buffer.new.store.slots other k ≡ place buffer.old.store.slots other k }
+    ensures stands { (deeds : List Deed) → Stands deeds buffer.old.store.slots →
+        Stands (with_put (wait_of buffer.old.pace (on first n) tick) (on first n) (start_of part n) (octets_of N part payload.now n) deeds) buffer.new.store.slots }
+    ensures told { (buffer.new.pace ≡ buffer.old.pace) ⊎
+        (buffer.new.pace ≡ told buffer.old.pace (wait_of buffer.old.pace (on first n) tick) (newest_wait buffer.old.pace buffer.old.newest tick) tick is_watched) }
+    ensures later { n ≢ 0 → buffer.new.pace ≡ buffer.old.pace }
 {
     let start = start_in(n, part);
     let size = (N - start).min(payload.len() - at);
@@ -102,6 +115,14 @@ pub fn lay<const N: usize>(
     ensures shift { buffer.new.pace.shift ≡ buffer.old.pace.shift }
     ensures laid { IsLaid buffer.old.pace tick buffer.old.store.slots buffer.new.store.slots first part payload.now }
     ensures before { IsKeptBefore buffer.old.store.slots buffer.new.store.slots first }
+
+    // So what is played at a place (`in_time` of `Buffer::take`) is the first octet that a stream's packets brought for it in time.
+    ensures stands { (deeds : List Deed) → Stands deeds buffer.old.store.slots →
+        Stands (with_periods N buffer.old.pace tick first part payload.now most_periods deeds) buffer.new.store.slots }
+
+    // The first period alone says something of the path, if octets of it were lacking.
+    ensures told { (buffer.new.pace ≡ buffer.old.pace) ⊎
+        (buffer.new.pace ≡ told buffer.old.pace (wait_of buffer.old.pace first tick) (newest_wait buffer.old.pace buffer.old.newest tick) tick is_watched) }
 {
     let mut laid = Laid {
         late: 0,

@@ -1,7 +1,10 @@
 //! One incoming stream with its jitter buffer.
 
-ghost use Rattle.std.specs.Prelude.{◌≡◌, ◌≢◌, ◌<◌, ◌≤◌, ℕ, if◌then◌else◌, false};
+ghost use Rattle.std.specs.Prelude.{◌≡◌, ◌≢◌, ◌<◌, ◌≤◌, ℕ, List, ◌∷◌, if◌then◌else◌, false};
 ghost use Rattle.rtp_packet.specs.Reception.{most_jitter, reception_home, counted};
+ghost use Rattle.rtp_buffer.specs.Store.{place, is_before};
+ghost use Rattle.rtp_buffer.specs.Buffer.{period_at};
+ghost use Rattle.rtp_buffer.specs.History.{Deed, LeaveOutBefore, Stands};
 ghost use Rattle.rtp_buffer.specs.Watch.{on};
 ghost use Rattle.rtp_buffer.specs.Pace.{wait_of, followed, given_up};
 ghost use Rattle.rtp_stream.specs.Places.{period_samples};
@@ -130,7 +133,7 @@ impl<const N: usize> Stream<N> {
         ensures arrival { result ≡ arrival_of (placed self.old.track self.old.buffer.pace header.now samples tick behind).1 }
         ensures others { self.new ≡ record self.old { track = self.new.track; heard_at = self.new.heard_at; buffer = self.new.buffer } }
         ensures at { (p : Place) → result ≡ Arrival.At p → (self.new.buffer.pace ≡ pace_after self.old.track self.old.buffer.pace header.now.timestamp tick)
-            × (self.new.buffer.store ≡ self.old.buffer.store) × (self.new.heard_at ≡ tick) }
+            × (self.new.buffer.store ≡ self.old.buffer.store) × (self.new.buffer.newest ≡ self.old.buffer.newest) × (self.new.heard_at ≡ tick) }
         ensures jump { result ≡ Arrival.Jump → BeginsAt self.new self.old.depth (on tick behind) × (self.new.heard_at ≡ tick) }
         ensures refused { is_taken result ≡ false → (self.new.buffer ≡ self.old.buffer) × (self.new.heard_at ≡ self.old.heard_at)
             × (self.new.track.newest ≡ self.old.track.newest) }
@@ -181,7 +184,7 @@ impl<const N: usize> Stream<N> {
         ensures arrival { result ≡ arrival_of (placed_in self.old header.now samples tick behind).1 }
         ensures others { self.new ≡ record self.old { reception = self.new.reception; track = self.new.track; heard_at = self.new.heard_at; buffer = self.new.buffer } }
         ensures at { (p : Place) → result ≡ Arrival.At p → (self.new.buffer.pace ≡ pace_after self.old.track self.old.buffer.pace header.now.timestamp tick)
-            × (self.new.buffer.store ≡ self.old.buffer.store) × (self.new.heard_at ≡ tick) }
+            × (self.new.buffer.store ≡ self.old.buffer.store) × (self.new.buffer.newest ≡ self.old.buffer.newest) × (self.new.heard_at ≡ tick) }
         ensures jump { result ≡ Arrival.Jump → BeginsAt self.new self.old.depth (on tick behind) × (self.new.heard_at ≡ tick) }
         ensures refused { is_taken result ≡ false → (self.new.buffer ≡ self.old.buffer) × (self.new.heard_at ≡ self.old.heard_at)
             × (self.new.track.newest ≡ self.old.track.newest) }
@@ -196,7 +199,8 @@ impl<const N: usize> Stream<N> {
     }
 
     /// Takes a packet of so many samples by its header, read at a tick that is late by `behind` periods: whether it is
-    /// taken, and where its payload belongs.
+    /// taken, and where its payload belongs. A packet that is never played (another payload type, no whole frames) is
+    /// counted by `reception.count` alone, if its source is the one that is heard.
     pub fn arrive(&mut self, header: &Header, samples: u32, tick: u32, behind: u32) -> Arrival
         requires smooth { self.old.reception.jitter ≤ most_jitter }
         requires sample { self.old.track.newest.place.sample < period_samples }
@@ -214,10 +218,10 @@ impl<const N: usize> Stream<N> {
             × (self.new.reception ≡ reception_after self.old self.old.reception header.now tick behind)
             × (self.new.track ≡ (placed_in self.old header.now samples tick behind).0) }
         ensures at { (p : Place) → result ≡ Arrival.At p → (self.new.buffer.pace ≡ pace_after self.old.track self.old.buffer.pace header.now.timestamp tick)
-            × (self.new.buffer.store ≡ self.old.buffer.store) × (self.new.heard_at ≡ tick) }
+            × (self.new.buffer.store ≡ self.old.buffer.store) × (self.new.buffer.newest ≡ self.old.buffer.newest) × (self.new.heard_at ≡ tick) }
         ensures jump { result ≡ Arrival.Jump → BeginsAt self.new self.old.depth (on tick behind) × (self.new.heard_at ≡ tick) }
 
-        // A packet that isn't taken changes nothing of what is played, nor of where others belong.
+        // A packet that isn't taken changes nothing of what is played, nor the newest packet, from which places are counted.
         ensures refused { is_taken result ≡ false → (self.new.buffer ≡ self.old.buffer) × (self.new.heard_at ≡ self.old.heard_at)
             × (self.new.track.newest ≡ self.old.track.newest) }
         ensures depth { self.new.depth ≡ self.old.depth }
@@ -244,6 +248,10 @@ impl<const N: usize> Stream<N> {
     pub fn give_up(&mut self, periods: u32, tick: u32)
         ensures track { self.new.track ≡ track_given_up self.old.track periods tick }
         ensures pace { self.new.buffer.pace ≡ given_up self.old.buffer.pace periods }
+        ensures ahead { (period k : ℕ) → is_before period (period_at self.new.buffer.pace tick) ≡ false →
+            place self.new.buffer.store.slots period k ≡ place self.old.buffer.store.slots period k }
+        ensures stands { (deeds : List Deed) → Stands deeds self.old.buffer.store.slots →
+            Stands (LeaveOutBefore (period_at self.new.buffer.pace tick) ∷ deeds) self.new.buffer.store.slots }
         ensures others { self.new ≡ record self.old { track = self.new.track; buffer = self.new.buffer } }
     {
         self.track.give_up(periods, tick);
