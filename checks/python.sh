@@ -14,7 +14,7 @@ failed=0
 # programs: the files outside of the package, in git's list, that Python runs, but for the benchmarks'
 programs() {
     echo setup.py
-    git ls-files -- tools gateway model clib checks | while read -r file; do
+    git ls-files -- tools gateway model clib checks suite | while read -r file; do
         case $file in
         */tests/*) ;;
         *) ! head -n 1 "$file" 2>/dev/null | grep -q '^#!.*python3' || echo "$file" ;;

@@ -21,7 +21,7 @@ HAS_PIP = all(map(importlib.util.find_spec, ("ensurepip", "setuptools", "wheel")
 # The environment of a user, to whom the clone means nothing.
 PLAIN = {name: value for name, value in os.environ.items() if not name.startswith("PYTHON")}
 # The folders of small program files, which find the package by sys.path.
-PROGRAMS = ("tools", "model", "gateway", "clib/examples", "bench")
+PROGRAMS = ("tools", "model", "suite", "gateway", "clib/examples", "bench")
 # What setuptools leaves where nobody tells it otherwise.
 LEFT = (TOP / "build", TOP / "dist", TOP / "python" / "trau.egg-info")
 

@@ -1,0 +1,121 @@
+"""The matrix as a text, as JSON, as JUnit's XML and as one page of HTML."""
+
+import html
+import json
+from typing import Dict, List, Sequence
+from xml.etree import ElementTree
+
+from trau.suite.matrix import Cell, PeerRow, Verdict
+from trau.suite.rule_list import Rule
+
+MARKS = {
+    Verdict.KEPT: "kept",
+    Verdict.BROKEN: "BROKEN",
+    Verdict.NOT_EXERCISED: "-",
+    Verdict.DOES_NOT_APPLY: "n/a",
+}
+LEGEND = "-: not exercised; n/a: doesn't apply to this peer"
+
+
+def text_of(rows: Sequence[PeerRow], rules: Sequence[Rule]) -> str:
+    """A table of rules by peers, then where each rule is broken first."""
+    wide = max(len(rule.identifier) for rule in rules)
+    names = [row.peer.name for row in rows]
+    lines = [" ".join(["rule".ljust(wide), "level ", *names])]
+    for rule in rules:
+        cells = [
+            MARKS[row.cells[rule.identifier].verdict].ljust(len(name))
+            for name, row in zip(names, rows)
+        ]
+        line = " ".join([rule.identifier.ljust(wide), f"{rule.level.value:6}", *cells])
+        lines.append(line.rstrip())
+    lines.append(LEGEND)
+    for row in rows:
+        broken = {rule: one for rule, one in row.cells.items() if one.verdict is Verdict.BROKEN}
+        lines += [f"{row.peer.name} {rule} {one.text()}" for rule, one in broken.items()]
+        kept = sum(one.verdict is Verdict.KEPT for one in row.cells.values())
+        frames = sum(each.periods for each in row.outcomes)
+        lines.append(
+            f"{row.peer.name} cases {len(row.outcomes)} frames {frames} kept {kept} broken"
+            f" {len(broken)}"
+        )
+    return "\n".join(lines) + "\n"
+
+
+def json_of(rows: Sequence[PeerRow], rules: Sequence[Rule]) -> str:
+    """Rules, and for each peer its verdicts."""
+    content = {
+        "rules": [
+            {"id": rule.identifier, "level": rule.level.value, "says": rule.says} for rule in rules
+        ],
+        "peers": [
+            {
+                "name": row.peer.name,
+                "version": row.peer.version,
+                "cases": len(row.outcomes),
+                "rules": {rule: entry_of(one) for rule, one in row.cells.items()},
+            }
+            for row in rows
+        ],
+    }
+    return json.dumps(content, indent=1, ensure_ascii=False) + "\n"
+
+
+def entry_of(cell: Cell) -> Dict[str, object]:
+    """A cell in JSON."""
+    entry: Dict[str, object] = {"verdict": cell.verdict.value, "cases": cell.cases}
+    where: Dict[str, object] = {
+        "case": cell.first_case,
+        "frame": cell.first_unit,
+        "failure": cell.failure,
+    }
+    return {**entry, **where} if cell.verdict is Verdict.BROKEN else entry
+
+
+def junit_of(rows: Sequence[PeerRow]) -> str:
+    """A suite for each peer, and in it a test for each case, which fails with the rules that it
+    shows broken."""
+    top = ElementTree.Element("testsuites")
+    for row in rows:
+        failed = [each for each in row.outcomes if any(b is not None for b in each.broken.values())]
+        attributes = {"tests": str(len(row.outcomes)), "failures": str(len(failed))}
+        suite = ElementTree.SubElement(top, "testsuite", {"name": row.peer.name, **attributes})
+        for each in row.outcomes:
+            names = {"classname": row.peer.name, "name": each.case}
+            test = ElementTree.SubElement(suite, "testcase", names)
+            broken = [f"{rule} frame {b}" for rule, b in each.broken.items() if b is not None]
+            if broken:
+                said = "; ".join(broken) + (f" ({each.failure})" if each.failure else "")
+                ElementTree.SubElement(test, "failure", {"message": said})
+    return ElementTree.tostring(top, encoding="unicode") + "\n"
+
+
+STYLE = """body{font:14px sans-serif}table{border-collapse:collapse}
+td,th{border:1px solid #ccc;padding:2px 6px;text-align:left;vertical-align:top}
+.kept{background:#dfd}.broken{background:#fdd}.other{color:#888}
+thead th{position:sticky;top:0;background:#fff}"""
+
+
+def html_cell(cell: Cell) -> str:
+    """A cell of the page; where a rule is broken first is its text."""
+    shade = {Verdict.KEPT: "kept", Verdict.BROKEN: "broken"}.get(cell.verdict, "other")
+    return f'<td class="{shade}">{html.escape(cell.text())}</td>'
+
+
+def html_of(rows: Sequence[PeerRow], rules: Sequence[Rule]) -> str:
+    """One page without scripts."""
+    peers = [f"<th>{html.escape(f'{row.peer.name} {row.peer.version}')}</th>" for row in rows]
+    lines: List[str] = []
+    for rule in rules:
+        cells = "".join(html_cell(row.cells[rule.identifier]) for row in rows)
+        about = html.escape(f"{rule.says} ({rule.source})")
+        lines.append(
+            f"<tr><th>{rule.identifier}</th><td>{rule.level.value}</td><td>{about}</td>{cells}</tr>"
+        )
+    head = f"<thead><tr><th>Rule</th><th>Level</th><th>It says</th>{''.join(peers)}</tr></thead>"
+    body = "\n".join(lines)
+    return (
+        '<!DOCTYPE html>\n<html lang="en"><meta charset="utf-8"><title>Conformance</title>'
+        f"<style>{STYLE}</style>\n<h1>GSM full rate: peers by rules</h1>\n"
+        f"<table>{head}\n<tbody>\n{body}\n</tbody></table></html>\n"
+    )
