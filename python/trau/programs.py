@@ -11,8 +11,10 @@ from functools import partial
 # Those for users: pip (pyproject.toml) and the packages install each as trau-NAME.
 COMMANDS = ("lines", "orders", "report", "shard", "timeline", "watch", "gateway", "model")
 
-# The status after an exception that nobody foresaw (EX_SOFTWARE of sysexits.h).
+# The statuses after an exception that nobody foresaw (EX_SOFTWARE of sysexits.h), and after an
+# interrupt.
 UNFORESEEN = 70
+INTERRUPTED = 130
 
 
 def started(module: str) -> int:
@@ -27,7 +29,10 @@ def started(module: str) -> int:
     except Exception:
         traceback.print_exc()
         return UNFORESEEN
-    status: int = main(sys.argv[1:])
+    try:
+        status: int = main(sys.argv[1:])
+    except KeyboardInterrupt:  # before or after what main itself does for one
+        return INTERRUPTED
     return status
 
 

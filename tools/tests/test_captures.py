@@ -1,27 +1,45 @@
 """Tests of captures.py: captures of a tone of 0.6 s that GStreamer 1.22 (GSM) and ffmpeg 5.1 (PCMA, PCMU) sent and tshark recorded, beside
 the fields that tshark 4.0 reads of them; damaged ones; and lines out to captures. They need the library dpkt, and are skipped without it."""
 
+import gzip
 import io
+import resource
 import struct
+import subprocess
 import sys
 import unittest
 from collections import Counter
 from unittest import mock
 
-from support import DATA, EXAMPLES, InFolder
+import test_capture_walk
+from support import DATA, EXAMPLES, TOOLS, InFolder
+from test_capture_walk import enhanced, interface, option, section
 
+from trau.gateway import rtp as gateway_rtp
 from trau.recordings import captures
 from trau.recordings import code_word
 from trau.recordings import lines
+from trau.recordings import rtp_walk, udp_layers
 from trau.recordings import uplink_frames
+from trau.recordings.capture_walk import packets
 from capture_files import HAS_DPKT, InCaptures, fields, rewritten, kinds_of
 from trau.rules.frame import FrameKind, bits_of
 from trau.rules.g711 import Law, samples_by_octet
-from trau.rules.parameters import SILENCE, bits_of_parameters, gsm_of_data
+from trau.rules.parameters import SILENCE, bits_of_parameters, data_of_gsm, gsm_of_data
 from trau.rules.search import search
 from trau.recordings.damages import silence_descriptor
 
 CAPTURES = {"gsm": "gsm.pcap", "pcma": "pcma.pcapng", "pcmu": "pcmu.pcap"}
+
+
+GSM_CAPTURE = (DATA / "gsm.pcap").read_bytes()
+
+
+def packets_of(path):
+    """The packets of the only stream of a capture."""
+    streams = captures.streams_of(path, path.read_bytes())
+    (flow,) = streams.by_key.values()
+    return list(streams.packets(flow))
 
 
 class WithoutTheLibrary(InFolder):
@@ -35,23 +53,223 @@ class WithoutTheLibrary(InFolder):
 
     def test_asked_for_with_a_word(self):
         said = f"captures need the library dpkt, which {sys.executable} doesn't have; apt-get install python3-dpkt "
+        up = self.path("7.up", (EXAMPLES / "7.up").read_bytes())
         with mock.patch.dict(
             sys.modules,
             {name: None for name in [*sys.modules, "dpkt"] if name.partition(".")[0] == "dpkt"},
         ):
-            self.assert_refused(lines.main, ["pcap", DATA / "gsm.pcap", self.folder / "7.up"], said)
+            self.assert_refused(lines.main, ["capture", up, self.folder / "7.pcap"], said)
+            # Plain packets are read without it; others are named.
             status, out, err = self.run_tool(lines.main, "look", DATA / "gsm.pcap")
-        self.assertEqual((status, err, out.count("\n")), (0, "", 2))
-        self.assertIn(
-            f": a pcap capture; lines.py pcap {DATA / 'gsm.pcap'} NEW\n  not read: {said}", out
+            self.assertEqual((status, err, out.count("\n")), (0, "", 2))
+            self.assertIn("\n  stream 1 is ", out)
+            tunnel = test_capture_walk.pcap([(0, 0, in_tunnels(1), 100)])
+            status, out, err = self.run_tool(lines.main, "look", self.path("t.pcap", tunnel))
+            self.assertIn("not read: 1 packets need the library dpkt\n", out)
+
+
+def in_tunnels(deep, content=b""):
+    """A packet on Ethernet of IP in so many of IP."""
+    for _ in range(deep):
+        size = (20 + len(content)).to_bytes(2, "big")
+        content = b"\x45\0" + size + bytes(4) + b"\x40\x04" + bytes(10) + content
+    return bytes(12) + b"\x08\0" + content
+
+
+@unittest.skipUnless(HAS_DPKT, "python3-dpkt isn't installed")
+class AsBaseStationsSend(InCaptures):
+    def test_pauses_with_descriptors(self):
+        # Descriptors of a pause are sent at its start and in each 24th period, and come back as such.
+        up = self.path("2.up", (EXAMPLES / "farm" / "2.up").read_bytes())
+        noise, kept = self.folder / "noise.pcap", self.folder / "kept.pcap"
+        for new, words in ((noise, ()), (kept, ("--silence", "keep"))):
+            self.assertEqual(self.run_tool(lines.main, "capture", up, new, *words)[0], 0)
+        sent = packets_of(kept)
+        self.assertLess(len(sent), len(packets_of(noise)))
+        descriptors = [
+            each
+            for each in sent
+            if code_word.kind_of(data_of_gsm(each.payload)) is FrameKind.VALID_SID
+        ]
+        self.assertTrue(descriptors)
+        for before, each in zip(descriptors, descriptors[1:]):
+            self.assertGreaterEqual((each.stamp - before.stamp) // 160, 1)
+        said, line = self.pcap(kept)
+        self.assertIn(f" sid {len(descriptors)} invalid 0 ", said)
+        self.assertIn(" gap 0 ", said)
+        # A downlink of descriptors in a row.
+        down = EXAMPLES / "farm" / "wanted" / "2.down"
+        self.assertEqual(
+            self.run_tool(lines.main, "capture", down, kept, "--silence", "keep")[0], 0
         )
+        kinds = [code_word.kind_of(data_of_gsm(each.payload)) for each in packets_of(kept)]
+        self.assertIn(FrameKind.VALID_SID, kinds)
+
+
+class Odd(InCaptures):
+    """Captures with odd packets, of several interfaces, and long ones."""
+
+    def ip_packets(self):
+        """The times, in microseconds, and IP packets of a capture."""
+        return [(round(1e6 * each.time), each.octets[14:]) for each in packets(GSM_CAPTURE)]
+
+    def test_interfaces_with_links_and_clocks_of_their_own(self):
+        # The same stream on Ethernet in microseconds, and with other ports as IP alone in nanoseconds, a second later.
+        made = [section(), interface(1), interface(101, option(9, b"\x09"))]
+        for time, octets in self.ip_packets():
+            other = octets[:20] + b"\x12\x34" + octets[22:]
+            made.append(enhanced(0, time, bytes(12) + b"\x08\0" + octets))
+            made.append(enhanced(1, 1000 * (time + 1_000_000), other))
+        given = self.path("two.pcapng", b"".join(made))
+        status, out, err = self.run_tool(lines.main, "look", given)
+        self.assertEqual((status, out.count("packets 30, gsm, from "), err), (0, 2, ""))
+        self.assertTrue(out.endswith(", from 1.00 s on\n"), out)
+        whole = self.pcap(DATA / "gsm.pcap")[1]
+        for stream, lead in ((1, 0), (2, 50)):
+            said, line = self.pcap(given, "--stream", stream, "--since", 1)
+            self.assertTrue(said.endswith(f" lead {lead}\n"))
+            self.assertEqual(line[40 * lead :], whole)
+
+    def test_packets_that_cannot_be_read(self):
+        good = [(0, 0, each.octets, len(each.octets)) for each in packets(GSM_CAPTURE)]
+        deep = in_tunnels(3000)
+        labels = bytes(12) + b"\x88\x47" + 3 * b"\0\1\0\x40"  # of MPLS, the last one missing
+        odd = [(0, 0, deep, len(deep)), (0, 0, labels, 200), (0, 0, b"", 0)]
+        given = self.path("odd.pcap", test_capture_walk.pcap(odd + good))
+        status, out, err = self.run_tool(lines.main, "look", given)
+        self.assertEqual((status, err), (0, ""))
+        said, line = self.pcap(given)
+        self.assertEqual(line, self.pcap(DATA / "gsm.pcap")[1])
+        for text in (out, said):
+            self.assertIn("not read: ", text)
+        # A clock without its value is that of microseconds.
+        made = section() + interface(1, option(9, b"")) + enhanced(0, 0, in_tunnels(1))
+        status, out, err = self.run_tool(lines.main, "look", self.path("clock.pcapng", made))
+        self.assertEqual((status, err), (0, ""))
+
+    def test_frames_of_gsmtap(self):
+        # Two sub-slots of a time slot, and LAPD between.
+        head = self.ip_packets()[0][1][:20] + b"\x12\x34" + (4729).to_bytes(2, "big")
+        up = (EXAMPLES / "7.up").read_bytes()
+        made = []
+        for place in range(0, 4000, 40):
+            for sub_slot, sub_type, content in (
+                (1, 4, up[place : place + 40]),
+                (2, 4, 40 * b"\xff"),
+                (0, 1, b"lapd"),
+            ):
+                tap = struct.pack(
+                    ">BBBBHHIBBBB", 2, 4, 0x13, 5, 0x4000, 0, place, sub_type, 0, sub_slot, 0
+                )
+                content = tap + content
+                octets = head + (8 + len(content)).to_bytes(2, "big") + bytes(2) + content
+                octets = bytes(12) + b"\x08\0" + octets
+                made.append((place // 40, 0, octets, len(octets)))
+        given = self.path("tap.pcap", test_capture_walk.pcap(made))
+        status, out, err = self.run_tool(lines.main, "look", given)
+        self.assertEqual((status, err), (0, ""))
+        self.assertEqual(out.count(", packets 100, TRAU frames of GSMTAP, from "), 2)
+        self.assertIn("not read: 100 packets of GSMTAP without TRAU frames of 16 kbit/s\n", out)
+        said, line = self.pcap(given, "--stream", 1)
+        self.assertEqual((said[:26], line), ("pcap trau frames 100; not ", up[:4000]))
+
+    def test_what_look_and_pcap_say_of_payloads_with_flags(self):
+        packets_of_flags = []
+        for each in packets(GSM_CAPTURE):
+            head, frame = each.octets[:54], each.octets[54:]
+            length = (8 + 12 + 34).to_bytes(2, "big")
+            octets = head[:38] + length + head[40:] + b"\x01" + frame
+            packets_of_flags.append((0, 0, octets, len(octets)))
+        given = self.path("flags.pcap", test_capture_walk.pcap(packets_of_flags))
+        why = "34 octets, the second of which begins with 1101: a frame of GSM after an octet of flags, which isn't read here"
+        status, out, err = self.run_tool(lines.main, "look", given)
+        self.assertIn(f", gsm, of which 30 have no whole frames, but {why}, from ", out)
+        self.assert_refused(lines.main, ["pcap", given, self.folder / "line"], why)
+
+    def streamed(self, count, step):
+        """A capture of so many packets of GSM, a number and so many samples apart."""
+        head = self.ip_packets()[0][1][:28]
+        frame = self.ip_packets()[0][1][40:]
+        made = []
+        for number in range(count):
+            rtp = struct.pack(">BBHII", 0x80, 3, number & 0xFFFF, step * number & 0xFFFFFFFF, 7)
+            octets = bytes(12) + b"\x08\0" + head + rtp + frame
+            made.append((step * number // 8000, 0, octets, len(octets)))
+        return test_capture_walk.pcap(made)
+
+    def limited(self, octets, *words):
+        """A tool's end with so many octets of memory of its own."""
+        return subprocess.run(
+            [sys.executable, TOOLS / "lines.py", *map(str, words)],
+            capture_output=True,
+            text=True,
+            preexec_fn=lambda: resource.setrlimit(resource.RLIMIT_DATA, (octets, octets)),
+        )
+
+    def test_a_long_capture_takes_little_memory(self):
+        given = self.path("long.pcap", self.streamed(60_000, 160))
+        ended = self.limited(60_000_000, "pcap", given, self.folder / "line")
+        self.assertEqual((ended.returncode, ended.stderr), (0, ""))
+        self.assertIn(" packets 60000 late 0 doubled 0 others 0 frames 60000 ", ended.stdout)
+        self.assertEqual((self.folder / "line").stat().st_size, 40 * 60_000)
+
+    def test_gaps_of_hours(self):
+        hour = 3600 * 8000
+        given = self.path("hours.pcap", self.streamed(8, hour))
+        ended = self.limited(60_000_000, "pcap", given, self.folder / "line")
+        self.assertEqual((ended.returncode, ended.stderr), (0, ""))
+        self.assertEqual((self.folder / "line").stat().st_size, 40 * (7 * 3600 * 50 + 1))
+        for count, step, part in (
+            (
+                2,
+                hour + 8000,
+                "is 3601 s after the packet before; at most 3600 s are taken; --long-gaps",
+            ),
+            (
+                26,
+                hour,
+                "the time stamps leave out 90000 s, and at most 86400 s are taken; --long-gaps",
+            ),
+        ):
+            given = self.path("days.pcap", self.streamed(count, step))
+            self.assert_refused(lines.main, ["pcap", given, self.folder / "line"], part)
+        self.pcap(self.path("long.pcap", self.streamed(2, hour + 8000)), "--long-gaps")
+
+    def test_what_was_packed_much(self):
+        given = self.path("zeros.gz", gzip.compress(bytes(200_000_000), 9))
+        ended = self.limited(60_000_000, "look", given)
+        said = f"{given}: packed by gzip: idle: each octet is 0x00\n"
+        self.assertEqual((ended.returncode, ended.stdout, ended.stderr), (0, said, ""))
+        given = self.path("empty.gz", 50_000 * gzip.compress(b"") + gzip.compress(b"text\n"))
+        ended = self.limited(60_000_000, "look", given)
+        self.assertEqual(ended.stdout, f"{given}: packed by gzip: a text\n")
+
+    def test_padding_and_rtcp_as_in_the_gateway(self):
+        frame = bytes(33)
+        for first, second, content, reason in (
+            (0xA0, 3, frame + b"\0", "not-rtp"),
+            (0xA0, 3, frame + b"\xff", "not-rtp"),
+            (0x90, 3, b"\0\0\xff\xff", "not-rtp"),
+            (0x80, 64, frame, "rtcp"),
+            (0x80, 0x80 | 95, frame, "rtcp"),
+        ):
+            octets = struct.pack(">BBHII", first, second, 0, 0, 7) + content
+            with self.assertRaises(gateway_rtp.PacketRefused) as refused:
+                gateway_rtp.parse(octets)
+            self.assertEqual(str(refused.exception), reason)
+            size = (8 + len(octets)).to_bytes(2, "big")
+            head = self.ip_packets()[0][1][:24]
+            packet = head + size + bytes(2) + octets
+            with self.assertRaises(udp_layers.Unread) as unread:
+                rtp_walk.rtp_of(packet, 101)
+            self.assertEqual(str(unread.exception), rtp_walk.NO_RTP)
 
 
 @unittest.skipUnless(HAS_DPKT, "python3-dpkt isn't installed")
 class Captures(InCaptures):
     def test_packets_are_those_that_tshark_reads(self):
         for kind, name in CAPTURES.items():
-            (packets,) = captures.streams_of(name, (DATA / name).read_bytes()).by_flow.values()
+            packets = packets_of(DATA / name)
             self.assertEqual([packet[:5] for packet in packets], fields(f"{kind}.txt"))
 
     def test_gsm(self):
@@ -273,7 +491,7 @@ class Captures(InCaptures):
         self.assert_refused(
             lines.main,
             ["pcap", cut, self.path("new")],
-            "ends within a packet; --partial takes those before it",
+            "ends within",
         )
         said, line = self.pcap(cut, "--partial")
         self.assertEqual(
@@ -286,7 +504,7 @@ class Captures(InCaptures):
                 cut = self.path("cut", octets[:-missing])
                 refused = self.run_tool(lines.main, "pcap", cut, self.path("new"))
                 self.assertIn(
-                    "ends within a packet" if missing < 103 or name != "gsm.pcap" else "",
+                    "ends within" if missing < 103 or name != "gsm.pcap" else "",
                     refused[2],
                 )
                 line = self.pcap(cut, "--partial")[1].rstrip(b"\xd5")
@@ -377,7 +595,7 @@ class Captures(InCaptures):
                 lines.main, "gsm", folder / "wanted" / f"{call}.down", self.folder / "d.gsm"
             )
             frames = self.path("d.gsm").read_bytes()
-            (packets,) = captures.streams_of("d", self.path("d.pcap").read_bytes()).by_flow.values()
+            packets = packets_of(self.path("d.pcap"))
             self.assertEqual(b"".join(packet.payload for packet in packets), frames)
 
     def of_link(self, link, change):
@@ -449,8 +667,8 @@ class Captures(InCaptures):
         more = [word for _ in range(299) for word in ("--also", up)]
         status, out, err = self.run_tool(lines.main, "capture", up, self.path("new.pcap"), *more)
         self.assertEqual((status, out, err), (0, "capture streams 300 packets 300\n", ""))
-        flows = captures.streams_of("new", self.path("new.pcap").read_bytes()).by_flow
-        self.assertEqual(len({(flow.source, flow.target) for flow in flows}), 300)
+        found = captures.streams_of("new", self.path("new.pcap").read_bytes()).by_key.values()
+        self.assertEqual(len({(each.flow.source, each.flow.target) for each in found}), 300)
 
     def cut_off(self, name, octets):
         """A capture whose packets have at most so many octets, as by a snaplen."""
@@ -528,7 +746,7 @@ class Captures(InCaptures):
             line,
         )
         refused(
-            "isn't a capture: unknown pcap format\n",
+            "isn't a capture: it begins as none does\n",
             "pcap",
             self.path("bytes", bytes(range(256))),
             line,
@@ -539,7 +757,7 @@ class Captures(InCaptures):
         )
         octets = (DATA / "gsm.pcap").read_bytes()
         refused(
-            "ends within a packet; --partial takes those before it",
+            "ends within",
             "pcap",
             self.path("cut.pcap", octets[:30]),
             line,

@@ -1,5 +1,7 @@
 """Tests of how tools end where standard output or a disk fails: one line on standard error, status 2, and no traceback."""
 
+import contextlib
+import io
 import os
 import resource
 import shlex
@@ -10,11 +12,14 @@ import sys
 import unittest
 from concurrent.futures import ThreadPoolExecutor
 from pathlib import Path
+from unittest import mock
 
 from support import DATA, PLAIN_PATH, TOOLS, TOP, InFolder
 from test_timeline import lay
 
+from trau import programs
 from trau.command_line import ends as tool_ends
+from trau.command_line.words import Refusal
 
 COMMANDS = ("lines.py", "orders.py", "report.py", "shard.py", "timeline.py", "watch.py")
 
@@ -270,6 +275,51 @@ class Ends(InFolder):
             self.assertEqual(
                 (loading.communicate()[1], loading.returncode), (b"", -signal.SIGINT), tool
             )
+
+    def test_a_replaced_file_keeps_its_mode(self):
+        line, sound = self.folder / "1.out", self.path("1.wav", b"older")
+        for mode in (0o600, 0o640, 0o444):
+            sound.chmod(mode)
+            ended = subprocess.run(
+                self.words(f"lines.py sound {line} {sound}"), capture_output=True
+            )
+            self.assertEqual((ended.returncode, sound.stat().st_mode & 0o777), (0, mode))
+            self.assertEqual(sound.read_bytes()[:4], b"RIFF")
+
+    def test_control_characters_of_words(self):
+        for words in ("lines.py look x --a\nb", "report.py text a\x1bb c", "lines.py a\x1b[2Jb"):
+            words = self.words(shlex.join(words.split(" ")))
+            ended = subprocess.run(words, capture_output=True, text=True)
+            self.assertEqual((ended.returncode, ended.stderr.count("\n")), (2, 1), ended.stderr)
+            self.assertNotIn("\x1b", ended.stderr)
+
+    def test_several_things_of_which_one_is_refused(self):
+        done = []
+
+        def does(item):
+            if isinstance(item, Exception):
+                raise item
+            done.append(item)
+
+        for items, status, lines in (
+            ((1, 2), 0, 0),
+            ((Refusal("no"), 3, MemoryError(), 4), 2, 2),
+            ((OSError(5, "bad", "x"), 5), 2, 1),
+            ((ValueError("unforeseen"), Refusal("no"), 6), 70, None),
+        ):
+            said = io.StringIO()
+            with contextlib.redirect_stderr(said):
+                self.assertEqual(tool_ends.for_each("lines.py", items, does), status)
+            if lines is not None:
+                self.assertEqual(said.getvalue().count("\n"), lines)
+        self.assertEqual(done, [1, 2, 3, 4, 5, 6])
+        with self.assertRaises(BrokenPipeError):  # standard output
+            tool_ends.for_each("lines.py", [BrokenPipeError()], does)
+
+    def test_an_interrupt_at_a_program_s_edges(self):
+        with mock.patch.object(programs.importlib, "import_module") as module:
+            module.return_value.main.side_effect = KeyboardInterrupt
+            self.assertEqual(programs.started("recordings.lines"), 130)
 
     def test_an_interrupt(self):
         self.path("report.txt", b"")

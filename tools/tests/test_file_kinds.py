@@ -8,19 +8,25 @@ import struct
 import tarfile
 import unittest
 from pathlib import Path
+from unittest import mock
 
 from support import CODEC, DATA, EXAMPLES, InFolder
 
 from trau.rules.frame import bits_of, octets_of
+from trau.rules.parameters import data_of_gsm, parameters_of_bits
 from trau.rules.g711 import Law, expand_all, octets_by_sample
 from trau.rules.slots import octets_turned
+import e1_lines
 from test_lines import wav
 
+from trau.recordings import bit_order
 from trau.recordings import file_kinds
+from trau.recordings.bit_order import BitOrder, BitWay
 from trau.recordings import lines
 from trau.runs import orders
 from trau.recordings import readings
-from trau.recordings.file_kinds import FileKind
+from trau.recordings.excerpts import excerpts_of, excerpts_of_blocks
+from trau.recordings.file_descriptions import FileKind
 
 FARM = EXAMPLES / "farm"
 UP = (EXAMPLES / "7.up").read_bytes()
@@ -74,6 +80,15 @@ def archive():
     return packed.getvalue()
 
 
+def gsm_frames(path):
+    """The 76 parameters of each frame of a file of libgsm."""
+    octets = path.read_bytes()
+    for place in range(0, len(octets), 33):
+        frame = parameters_of_bits(data_of_gsm(octets[place : place + 33]))
+        blocks = [(b.nc, b.bc, b.mc, b.xmaxc, *b.xmc) for b in frame.blocks]
+        yield [*frame.larc, *(value for block in blocks for value in block)]
+
+
 class Look(InFolder):
     def look(self, content, name="file"):
         """What is said of a file, without its name. The lines under it are `more`."""
@@ -88,7 +103,7 @@ class Look(InFolder):
 
     def test_heads(self):
         speech = (DATA / "speech.gsm").read_bytes()
-        sox = "; sox FILE -r 8000 -c 1 -b 16 -e signed-integer NEW.wav"
+        sox = "; sox -D FILE -r 8000 -c 1 -b 16 -e signed-integer NEW.wav"
         for content, wanted in (
             (b"", "empty"),
             (
@@ -204,7 +219,7 @@ class Look(InFolder):
         said = self.look(UP[:4000] + kinds[240:480])
         self.assertEqual(
             said,
-            "an uplink, its first frame at bit 0; of the 106 frames at its start 3 are enhanced full rate speech (C1 to C5 11010) and 3 are AMR"
+            "an uplink, its first frame at bit 0; of the 106 frames 3 are enhanced full rate speech (C1 to C5 11010) and 3 are AMR"
             " speech (C1 to C5 00110), which trau doesn't decode; trau run takes it as C.up, and makes sound of it",
         )
 
@@ -232,9 +247,11 @@ class Look(InFolder):
 
     def test_every_line_of_the_examples(self):
         for path in (*FARM.glob("*.up"), *EXAMPLES.glob("7.up")):
-            self.assertIs(file_kinds.look(*file_kinds.head_of(path)).kind, FileKind.UPLINK)
+            self.assertIs(file_kinds.look(file_kinds.excerpts_of_file(path)).kind, FileKind.UPLINK)
         for path in (FARM / "wanted").glob("*.down"):
-            self.assertIs(file_kinds.look(*file_kinds.head_of(path)).kind, FileKind.DOWNLINK)
+            self.assertIs(
+                file_kinds.look(file_kinds.excerpts_of_file(path)).kind, FileKind.DOWNLINK
+            )
 
     def test_slots_and_whole_lines(self):
         slot = merged([UP[:4000], bytes(4000), shifted(UP, 5)[:4000], DOWN[:4000]])
@@ -258,6 +275,110 @@ class Look(InFolder):
             f"an E1 line of 32 slots, {TURNED}; {command} --lsb-first",
         )
 
+    def test_a_test_sequence(self):
+        words = [value for frame in gsm_frames(DATA / "speech.gsm") for value in frame]
+        for order in "<>":
+            said = self.look(struct.pack(f"{order}{len(words)}H", *words), "seq.cod")
+            self.assertEqual(
+                said,
+                "a test sequence of 40 frames of full rate (.cod), each of 76 words of 16 bits, which isn't read here",
+            )
+
+    def test_a_container_that_is_not_known(self):
+        spoken = max((path.read_bytes() for path in SPOKEN), key=len)
+        for size in (160, 240):
+            blocks = [
+                b"\xa0\0\x07" + bytes([at & 0xFF]) + spoken[place : place + size]
+                for at, place in enumerate(range(0, len(spoken) - size, size))
+            ]
+            content = b"".join(blocks)
+            said = self.look(content)
+            wanted = f"sound in blocks of {size + 4} octets with heads between, as it seems: a container that isn't known here"
+            self.assertEqual(said, wanted)
+            words = ["pcm", self.path("x.raw", content), self.folder / "new.pcm", "--raw"]
+            self.assert_refused(lines.main, words, "sound in blocks of ")
+            self.assertEqual(self.run_tool(lines.main, *words, "--trust")[0], 0)
+
+    def test_late_starts(self):
+        # An uplink that is idle for 45 s, a downlink after silence of A-law, and sound after an idle slot.
+        for octet, line, kind in ((0xFF, UP, "an uplink"), (0xD5, DOWN, "a downlink")):
+            content = 90_000 * bytes([octet]) + line
+            first = 8 * 90_000 + 320 * (line is DOWN)
+            self.assertTrue(
+                self.look(content).startswith(f"{kind}, its first frame at bit {first}; ")
+            )
+        spoken = max((path.read_bytes() for path in SPOKEN), key=len)
+        said = self.look(100_000 * b"\xff" + spoken)
+        self.assertEqual(said, "A-law, as it seems; lines.py pcm FILE NEW.pcm --raw")
+        # What follows isn't known; and idle to its end.
+        noise = random.Random(4).randbytes(80_000)
+        self.assertEqual(
+            self.look(102_400 * b"\xff" + noise),
+            "idle up to octet 102400: each octet is 0xff; from there on nothing that is known here",
+        )
+        self.assertEqual(self.look(3_000_000 * b"\x54"), "idle: each octet is 0x54")
+
+    def test_idle_and_late_slots_of_a_line(self):
+        # The first second is idle. The last quarter of a minute has a call in slot 9, and sound in slot 3.
+        periods, start = 400, 300
+        channels = [UP if number == 2 else b"\xff" * len(UP) for number in range(4)]
+        slots = {3: max((path.read_bytes() for path in SPOKEN), key=len), 9: merged(channels)}
+        slots = {
+            number: (160 * start * b"\xff" + content)[: 160 * periods].ljust(160 * periods, b"\xff")
+            for number, content in slots.items()
+        }
+        said = self.look(e1_lines.line(periods, slots))
+        self.assertEqual(
+            said, "an E1 line of 32 slots; lines.py slot FILE NEW.pcm --slot N --of 32"
+        )
+        self.assertEqual(
+            self.more,
+            [
+                f"slot 9: channel 2 is an uplink, its first frame at bit {320 * start};"
+                " lines.py slot FILE NEW.up --slot 9 --of 32 --channel J",
+                "slots 1-2, 4-8, 10-31: idle where it was looked at: each octet is 0xff",
+                "slot 3: A-law, as it seems",
+            ],
+        )
+
+    def test_one_file_seen_alike_by_all(self):
+        late = self.path("late", 90_000 * b"\xff" + UP)
+        for command in ("pcm", "sound"):
+            words = [command, late, self.folder / "new", *["--raw"] * (command == "pcm")]
+            self.assert_refused(lines.main, words, "is an uplink, its first frame at bit 720000")
+        for sizes in ((0, 100), (700, 5000), (70_000, 200_000), (600_000, 900_000)):
+            content = bytes(sizes[0]) + random.Random(1).randbytes(sizes[1])
+            blocks = [content[place : place + 70_000] for place in range(0, len(content), 70_000)]
+            self.assertEqual(excerpts_of(content), excerpts_of_blocks(blocks))
+
+    def test_the_order_of_bits_of_a_slot(self):
+        # Uplinks alone: in the other order their sync bits match too, one bit on, in the channel 3 - J.
+        for count in (1, 2, 4):
+            for first in range(0, 5 - count):
+                lines_of = {number: UP for number in range(first, first + count)}
+                slot = merged([lines_of.get(number, b"\xff" * len(UP)) for number in range(4)])
+                wanted = "; ".join(
+                    f"channel {number} is an uplink, its first frame at bit 0"
+                    for number in lines_of
+                )
+                command = "lines.py slot FILE NEW.up --channel J"
+                self.assertEqual(self.look(slot), f"a time slot of 64 kbit/s: {wanted}; {command}")
+                self.assertEqual(
+                    self.look(octets_turned(slot)),
+                    f"a time slot of 64 kbit/s: {wanted}, {TURNED}; {command} --lsb-first",
+                )
+
+    def test_an_order_of_bits_that_is_not_known(self):
+        undecided = (BitWay(False, 0), BitWay(True, 0))
+        with mock.patch.object(bit_order, "decide", return_value=BitOrder(undecided, "undecided")):
+            said = self.look(merged([UP, *3 * [b"\xff" * len(UP)]]))
+        self.assertEqual(
+            said, "a time slot of 64 kbit/s, whose frames don't say in which order its bits are"
+        )
+        self.assertEqual(len(self.more), 2)
+        self.assertTrue(self.more[0].startswith("as it may be: channel 0 is an uplink"))
+        self.assertTrue(self.more[1].endswith(" --channel J --lsb-first"))
+
     # A slot with frames in three channels.
     UPLINKS = merged([UP[:4000], bytes(4000), shifted(UP, 5)[:4000], UP[:4000]])[:3000]
     FOUND = "; ".join(
@@ -266,7 +387,7 @@ class Look(InFolder):
     )
 
     def test_the_slots_of_a_line(self):
-        idle = "idle at its start: each octet is 0xd5, silence of A-law"
+        idle = "idle: each octet is 0xd5, silence of A-law"
         line = e1(self.UPLINKS)
         for bits in (0, 1, 2, 7, 8, 13):
             skip = f"{' --skip 1' * (bits > 7)}{f' --skip-bits {bits % 8}' * (bits % 8 > 0)}"
@@ -310,7 +431,7 @@ class Look(InFolder):
                 self.more[1:],
                 [
                     "slots 0-8: idle: each octet is 0x00",
-                    "slots 10-31: idle: each octet is 0xff, silence of mu-law",
+                    "slots 10-31: idle: each octet is 0xff",
                 ],
             )
 
@@ -342,7 +463,7 @@ class Look(InFolder):
         )
         self.assertTrue(self.look(line).startswith("an E1 line of 32 slots; "))
         idle, unknown = (
-            "slots 1-2, 5-8, 10-31: idle at its start: each octet is 0x54",
+            "slots 1-2, 5-8, 10-31: idle: each octet is 0x54",
             "slots 3, 9: nothing that is known here",
         )
         self.assertEqual(self.more, [idle, unknown, "slot 4: A-law, as it seems"])
@@ -369,7 +490,7 @@ class Look(InFolder):
             (
                 b"fLaC" + bytes(40),
                 "x.flac.gz",
-                "a FLAC file; gunzip -k FILE; sox x.flac -r 8000 -c 1 -b 16 -e signed-integer NEW.wav",
+                "a FLAC file; gunzip -k FILE; sox -D x.flac -r 8000 -c 1 -b 16 -e signed-integer NEW.wav",
             ),
             (archive(), "x.tar.gz", "a tar archive; gunzip -k FILE; tar xf x.tar"),
             (
@@ -415,7 +536,7 @@ class Look(InFolder):
             said = self.look(linear(path.read_bytes()))
             self.assertEqual(
                 said,
-                "sound of 16 bits a sample, as it seems; sox -t raw -r 8000 -c 1 -b 16 -e signed-integer FILE NEW.wav",
+                "sound of 16 bits a sample, as it seems; sox -D -t raw -r 8000 -c 1 -b 16 -e signed-integer FILE NEW.wav",
             )
 
     def test_sound_of_lines(self):
@@ -443,7 +564,8 @@ class Look(InFolder):
                 content = bytes(random.Random(3).choices(octets, k=3300))
                 self.assertTrue(self.look(content).startswith(f"{law.title()}, as it seems;"))
             for octet in (law.idle(), law.idle() ^ 0x80):
-                said = f"idle: each octet is 0x{octet:02x}, silence of {law.title()}"
+                slot = "as of an idle slot, or " * (octet == 0xFF)
+                said = f"idle: each octet is 0x{octet:02x}, {slot}silence of {law.title()}"
                 self.assertEqual(
                     self.look(3300 * bytes([octet])),
                     f"{said}; lines.py pcm FILE NEW.pcm --raw{word}",
@@ -452,11 +574,6 @@ class Look(InFolder):
                     self.look(3300 * bytes([octet]), "1.out"),
                     f"{said}; lines.py sound FILE NEW.wav{word}",
                 )
-        self.assertTrue(
-            self.look(65536 * b"\xd5" + UP).startswith(
-                "idle at its start: each octet is 0xd5, silence of A-law; "
-            )
-        )
         for octet in (0x00, 0x54, 0x7E):
             self.assertEqual(self.look(160 * bytes([octet])), f"idle: each octet is 0x{octet:02x}")
         self.assertEqual(self.look(159 * b"\xd5"), "nothing that is known here")
@@ -466,13 +583,13 @@ class Look(InFolder):
 
     def test_names_in_commands(self):
         for name, word in (("a b.gsm", "'a b.gsm'"), ("-x.gsm", "./-x.gsm"), ("x.gsm", "x.gsm")):
-            found = file_kinds.look((DATA / "speech.gsm").read_bytes(), 1320)
+            found = file_kinds.look(excerpts_of((DATA / "speech.gsm").read_bytes()))
             self.assertEqual(
                 file_kinds.command_for(found, Path(name)), f"; lines.py uplink {word} NEW.up"
             )
-            found = file_kinds.look(b"fLaC" + bytes(40), 44)
+            found = file_kinds.look(excerpts_of(b"fLaC" + bytes(40)))
             self.assertTrue(
-                file_kinds.command_for(found, Path(name)).startswith(f"; sox {word} -r 8000")
+                file_kinds.command_for(found, Path(name)).startswith(f"; sox -D {word} -r 8000")
             )
 
     def test_several_files(self):
@@ -503,12 +620,12 @@ class Refused(InFolder):
             (
                 "7.au",
                 b".snd" + bytes(30),
-                "is an .au file, and no plain WAV file; sox 7.au -r 8000 ",
+                "is an .au file, and no plain WAV file; sox -D 7.au -r 8000 ",
             ),
             (
                 "7.wav",
                 b"RF64" + bytes(30),
-                "is a WAV file of 64 bits, and no plain WAV file; sox 7.wav ",
+                "is a WAV file of 64 bits, and no plain WAV file; sox -D 7.wav ",
             ),
             (
                 "7.gsm",
@@ -523,12 +640,12 @@ class Refused(InFolder):
             (
                 "7.au.gz",
                 gzip.compress(b".snd" + bytes(30)),
-                "; gunzip -k 7.au.gz; sox 7.au -r 8000 ",
+                "; gunzip -k 7.au.gz; sox -D 7.au -r 8000 ",
             ),
             (
                 "7.wav.gz",
                 gzip.compress(wav(rate=16000)),
-                "; sox makes it: gunzip -k 7.wav.gz; sox 7.wav -r 8000 ",
+                "; sox makes it: gunzip -k 7.wav.gz; sox -D 7.wav -r 8000 ",
             ),
         ):
             path = self.path(name, content)
@@ -560,9 +677,9 @@ class Refused(InFolder):
             (
                 [],
                 linear(spoken),
-                "is sound of 16 bits a sample, as it seems, and no A-law; sox -t raw ",
+                "is sound of 16 bits a sample, as it seems, and no A-law; sox -D -t raw ",
             ),
-            ([], b"fLaC" + bytes(4000), "is a FLAC file, and no A-law; sox FILE -r 8000"),
+            ([], b"fLaC" + bytes(4000), "is a FLAC file, and no A-law; sox -D FILE -r 8000"),
             (
                 [],
                 (DATA / "speech.gsm").read_bytes(),
@@ -641,7 +758,7 @@ class Refused(InFolder):
     def test_uplink(self):
         new = self.path("new")
         for content, part in (
-            (b".snd" + bytes(62), "is an .au file, and no frames of libgsm; sox FILE -r 8000"),
+            (b".snd" + bytes(62), "is an .au file, and no frames of libgsm; sox -D FILE -r 8000"),
             (
                 UP,
                 "is an uplink, its first frame at bit 0, and no frames of libgsm; trau run takes it as C.up",

@@ -6,11 +6,12 @@ import subprocess
 import sys
 import unittest
 from collections import Counter
+from unittest import mock
 
 import support
 from support import CODEC, DATA, EXAMPLES, InFolder, frames_of_downlink
 
-from trau.recordings import lines
+from trau.recordings import lines, wav_files
 from trau.rules.frame import FrameKind, UpFrame, bits_of, data_of, frame_of, octets_of, read_up
 from trau.rules.g711 import Law, samples_by_octet
 from trau.rules.noise import RandomSource, comfort_noise
@@ -621,6 +622,13 @@ COMMANDS = (
 
 
 class TheFileThatIsWritten(InFolder):
+    def test_a_wav_file_that_would_be_too_long(self):
+        with mock.patch.object(wav_files, "MOST_DATA", 318):
+            words = ["sound", self.path("1.out", 160 * b"\xd5"), self.path("1.wav")]
+            self.assert_refused(
+                lines.main, words, "320 octets of samples: a WAV file has at most 318;"
+            )
+
     def test_never_the_input(self):
         up = self.path("7.up", (EXAMPLES / "7.up").read_bytes())
         os.symlink(up, self.path("link.up"))

@@ -7,17 +7,19 @@ import shlex
 import struct
 import subprocess
 import unittest
+from array import array
 from unittest import mock
 
 from support import CODEC, DATA, EXAMPLES, TOP, InFolder
 
 from trau.rules.frame import bits_of, octets_of
-from trau.rules.g711 import Law, octets_by_sample
+from trau.rules.g711 import Law, compress_all, expand_all, octets_by_sample
 from trau.rules.parameters import SILENCE, bits_of_parameters, gsm_of_data
 from trau.rules.slots import octets_turned
 from test_file_kinds import e1, merged, shifted
 from test_lines import wav
 
+from trau.recordings import heard_uplinks
 from trau.recordings import lines
 from trau.recordings import listening
 from trau.recordings import recordings
@@ -430,6 +432,87 @@ class Listening(Recorded):
                     self.assertIsNone(listening.library_beside())
             with mock.patch.object(listening, "is_stale", return_value=True):
                 self.assertIsNone(listening.library_beside())
+
+    def test_no_tool_starts_a_proof(self):
+        # The program isn't built: the script says so when it is asked, and would begin to prove.
+        script = self.path(
+            "trau", b'#!/bin/sh\n[ -n "$TRAU_IS_BUILT" ] && exit 1\necho a proof begins; exit 5\n'
+        )
+        script.chmod(0o755)
+        heard = []
+        surroundings = {"TRAU_PROGRAM": "", **{"PATH": "/usr/bin:/bin"}}
+        with mock.patch.dict(os.environ, surroundings), mock.patch.object(
+            listening, "program_beside", return_value=str(script)
+        ):
+            for library in {listening.library_beside(), None}:
+                with mock.patch.object(listening, "library_beside", return_value=library):
+                    for line in (WANTED / "2.down", FARM / "1.up"):
+                        new = self.path("new.wav")
+                        status, out, err = self.run_tool(lines.main, "listen", line, new)
+                        self.assertEqual((status, out[:6]), (0, "listen"))
+                        self.assertEqual("the model decodes" in err, library is None)
+                        heard.append((line, new.read_bytes()))
+        self.assertEqual(len(set(heard)), 2)
+        if PROGRAM:
+            for line, sound in set(heard):
+                self.lines("listen", line, self.path("new.wav"), "--trau", PROGRAM)
+                self.assertEqual(self.path("new.wav").read_bytes(), sound)
+
+    def test_a_call_both_ways(self):
+        up, pcm, new = FARM / "1.up", FARM / "1.pcm", self.path("new.wav")
+        self.lines("listen", up, self.path("right.wav"))
+        said = self.lines("listen", up, new, "--both", pcm)
+        left = array("h", expand_all(Law.A, pcm.read_bytes()))
+        right = array("h", self.path("right.wav").read_bytes()[44:])
+        self.assertTrue(said.endswith(f" both {len(left)}\n"))
+        content = new.read_bytes()
+        self.assertEqual(struct.unpack_from("<HIIHH", content, 22), (2, 8000, 32000, 4, 16))
+        samples = array("h", content[44:])
+        self.assertEqual(len(samples), 2 * max(len(left), len(right)))
+        self.assertEqual(
+            (samples[: 2 * len(left) : 2], samples[1 : 2 * len(right) : 2]), (left, right)
+        )
+        # A downlink from the exchange is decoded.
+        self.lines("listen", up, new, "--both", WANTED / "1.down")
+        self.assertNotEqual(set(array("h", new.read_bytes()[44:])[::2]), {0})
+
+    def test_losses_as_silence(self):
+        up = FARM / "1.up"
+        self.lines("listen", up, self.path("made.wav"))
+        self.lines("listen", up, self.path("quiet.wav"), "--losses", "quiet")
+        made, quiet = (self.path(f"{name}.wav").read_bytes()[44:] for name in ("made", "quiet"))
+        differs = {
+            place // 320
+            for place in range(0, len(made), 320)
+            if made[place : place + 320] != quiet[place : place + 320]
+        }
+        self.assertTrue(differs)
+        self.assertLessEqual(differs, set(heard_uplinks.lost_periods(up.read_bytes())))
+        for period in heard_uplinks.lost_periods(up.read_bytes()):
+            self.assertEqual(set(quiet[320 * period : 320 * period + 320]), {0})
+
+    def test_samples_of_13_bits_and_frames_that_are_heard(self):
+        for line in (FARM / "1.up", WANTED / "2.down"):
+            self.lines("listen", line, self.path("law.wav"))
+            self.lines("listen", line, self.path("linear.wav"), "--linear")
+            law, linear = (
+                array("h", self.path(f"{name}.wav").read_bytes()[44:]) for name in ("law", "linear")
+            )
+            self.assertEqual(len(law), len(linear))
+            self.assertEqual({sample % 8 for sample in linear}, {0})
+            self.assertNotEqual(law, linear)
+            heard = [at for at, sample in enumerate(linear) if sample]
+            coded, law_coded = compress_all(Law.A, linear), compress_all(Law.A, law)
+            self.assertTrue(all(coded[at] == law_coded[at] for at in heard))
+        said = self.lines("gsm", FARM / "1.up", self.path("1.gsm"), "--heard", "--idle", "quiet")
+        self.assertTrue(said.startswith("gsm frames 153 uplink good 31 sid 4 invalid 1 bad 117 "))
+        self.assertEqual(len(self.path("1.gsm").read_bytes()), 33 * 153)
+        self.lines("gsm", FARM / "1.up", self.path("1.gsm"), "--heard")
+        self.assertLess(len(self.path("1.gsm").read_bytes()), 33 * 153)
+        words = ["listen", FARM / "1.up", self.path("x.wav"), "--linear", "--trau", "x"]
+        self.assert_refused(lines.main, words, "--linear: the program gives A-law alone")
+        words = ["gsm", self.path("9.up", bytes(80)), self.path("x.gsm"), "--heard"]
+        self.assert_refused(lines.main, words, "no frame of an uplink would be written")
 
     def test_a_library_of_older_sources(self):
         build = self.path("build", b"#!/bin/sh\nexit ${TRAU_IS_BUILT:+1}\n")

@@ -399,9 +399,13 @@ class Senders(InCaptures):
         given = self.path("link.pcap", octets[:20] + (147).to_bytes(4, "little") + octets[24:])
         self.assertEqual(
             self.look(given),
-            [f"  not read: {given}: has a kind of link, 147, that isn't known here"],
+            [
+                "  no stream of RTP",
+                "  not read: 30 packets of a kind of link, 147, that isn't known here",
+            ],
         )
-        self.assertEqual(len(self.look(self.path("cut.pcap", octets[:-15]))), 1)
+        found = self.look(self.path("cut.pcap", octets[:-15]))
+        self.assertEqual((len(found), found[1]), (2, "  it ends within packet 30"))
 
 
 class Jumps(unittest.TestCase):

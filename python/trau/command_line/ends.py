@@ -9,18 +9,17 @@ exception that nobody foresaw, which is a fault of the tool; its traceback says 
 import contextlib
 import functools
 import os
-import re
 import sys
 import traceback
 from pathlib import Path
-from typing import Callable, Iterator, Sequence
+from typing import Callable, Iterable, Iterator, Sequence, TypeVar
 
-from trau.command_line.words import Refusal, as_started
-from trau.programs import UNFORESEEN
+from trau.command_line.words import Refusal, as_started, printable
+from trau.programs import INTERRUPTED, UNFORESEEN
 
 
 FAILED = 2
-INTERRUPTED = 130
+NO_MEMORY = "not enough memory"
 
 # The main function of a tool: it takes the words of the command line and returns the exit status.
 Main = Callable[[Sequence[str]], int]
@@ -35,11 +34,6 @@ def naming(path: Path) -> Iterator[None]:
     except OSError as failure:
         failure.filename = str(path)
         raise
-
-
-def printable(text: str) -> str:
-    """A text with its control characters escaped: names of files may have them."""
-    return re.sub(r"[\x00-\x1f\x7f-\x9f]", lambda found: repr(found[0])[1:-1], text)
 
 
 def complain(name: str, what: str) -> None:
@@ -87,7 +81,7 @@ def status_of(name: str, main: Main, words: Sequence[str]) -> int:
     except OSError as failure:
         complain(name, reason_of(failure))
     except MemoryError:
-        complain(name, "not enough memory")
+        complain(name, NO_MEMORY)
     except KeyboardInterrupt:
         return INTERRUPTED
     except Exception:
@@ -95,6 +89,31 @@ def status_of(name: str, main: Main, words: Sequence[str]) -> int:
             traceback.print_exc()
         return UNFORESEEN
     return FAILED
+
+
+Item = TypeVar("Item")
+
+
+def for_each(name: str, items: Iterable[Item], does: Callable[[Item], None]) -> int:
+    """Does something for each item, also for those after one that it refuses. Each refused one gets
+    its line. Returns the status of the worst."""
+    worst = 0
+    for item in items:
+        try:
+            does(item)
+        except (Refusal, MemoryError) as refusal:
+            complain(name, str(refusal) or NO_MEMORY)
+            worst = max(worst, FAILED)
+        except OSError as failure:
+            if failure.filename is None:  # standard output, which won't take the others either
+                raise
+            complain(name, reason_of(failure))
+            worst = max(worst, FAILED)
+        except Exception:
+            with contextlib.suppress(OSError):
+                traceback.print_exc()
+            worst = UNFORESEEN
+    return worst
 
 
 def tool(name: str, prints: bool = True) -> Callable[[Main], Main]:

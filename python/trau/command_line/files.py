@@ -1,16 +1,21 @@
-"""Files as the tools read and write them: a file is written as a whole or not at all, and never
-over one that was read."""
+"""Files as the tools read and write them: a file is written as a whole or not at all, never
+over one that was read, and with the mode of one that it replaces."""
 
 import contextlib
 import os
+import shutil
+import stat
 import sys
+import tempfile
+from functools import partial
 from pathlib import Path
-from typing import BinaryIO, Iterable, Iterator
+from typing import BinaryIO, Iterable, Iterator, Union
 
 from trau.command_line.words import Refusal
 from trau.command_line.ends import naming
 
 STREAM = Path("-")  # standard input, or standard output
+NEW_FILE, PRIVATE_FILE = 0o666, 0o600  # modes; the first one as the process masks it
 
 
 @contextlib.contextmanager
@@ -41,12 +46,31 @@ def read_part(path: Path, start: int, octets: int) -> bytes:
         return file.read(octets)
 
 
-def write_file(path: Path, content: bytes, inputs: Iterable[Path]) -> None:
+def opened_anew(part: str, flags: int, target: Path) -> int:
+    """Opens a new file that will replace another, as a descriptor. It has that one's mode from the
+    start, so that nobody reads in it what he couldn't read before."""
+    if not target.exists():
+        return os.open(part, flags, NEW_FILE)
+    opened_part = os.open(part, flags, PRIVATE_FILE)
+    os.fchmod(opened_part, stat.S_IMODE(target.stat().st_mode))
+    return opened_part
+
+
+def write_stream(chunks: Iterable[bytes]) -> None:
+    """Writes to standard output, once all is made."""
+    with tempfile.TemporaryFile() as made:
+        made.writelines(chunks)
+        made.seek(0)
+        shutil.copyfileobj(made, sys.stdout.buffer)
+    sys.stdout.buffer.flush()
+
+
+def write_file(path: Path, content: Union[bytes, Iterable[bytes]], inputs: Iterable[Path]) -> None:
     """Writes a file as a whole or not at all, and never over one of the inputs; or writes to
-    standard output."""
+    standard output. The content may be made as it is written."""
+    chunks = [content] if isinstance(content, bytes) else content
     if path == STREAM:
-        sys.stdout.buffer.write(content)
-        sys.stdout.buffer.flush()
+        write_stream(chunks)
         return
     with naming(path):
         target = Path(os.path.realpath(path))
@@ -57,9 +81,9 @@ def write_file(path: Path, content: bytes, inputs: Iterable[Path]) -> None:
             # An input may be missing, as the uplink of a call without periods.
             if any(given.exists() and target.samefile(given) for given in inputs):
                 raise Refusal(f"{path}: is an input, which isn't written over")
-        with open(part, "xb") as file:
+        with open(part, "xb", opener=partial(opened_anew, target=target)) as file:
             try:
-                file.write(content)
+                file.writelines(chunks)
                 file.close()
                 os.replace(part, target)
             except BaseException:

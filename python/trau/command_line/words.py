@@ -22,6 +22,11 @@ TOOL_IN_TEXT = re.compile(
 INSTALLED = "trau-"
 
 
+def printable(text: str) -> str:
+    """A text with its control characters escaped: names of files may have them."""
+    return re.sub(r"[\x00-\x1f\x7f-\x9f]", lambda found: repr(found[0])[1:-1], text)
+
+
 def as_started(text: str) -> str:
     """A text with the names that tools have where they are installed, as `trau-lines` for lines.py,
     if this one was started by such a name. Else the text as it is."""
@@ -106,4 +111,4 @@ class Words(argparse.ArgumentParser):
 
     def error(self, message: str) -> NoReturn:
         """Prints what is wrong."""
-        self.exit(2, f"{as_started(self.prog)}: {message}\n")
+        self.exit(2, f"{as_started(self.prog)}: {printable(message)}\n")

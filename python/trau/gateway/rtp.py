@@ -8,15 +8,15 @@ from typing import Callable, Tuple
 
 from trau.rules import payload_types
 from trau.rules.profile import PCM_OCTETS
+from trau.rules.rtp import HEADER as HEADER
+from trau.rules.rtp import NUMBERS as NUMBERS
+from trau.rules.rtp import STAMPS as STAMPS
+from trau.rules.rtp import PacketRefused as PacketRefused
+from trau.rules.rtp import head_of, payload_of
 
 GSM, ALAW, MULAW = payload_types.GSM, payload_types.PCMA, payload_types.PCMU
 SAMPLES = PCM_OCTETS  # of a period, in units of the time stamp
-HEADER = struct.Struct(">BBHII")
-NUMBERS, STAMPS = 0xFFFF, 0xFFFFFFFF
-
-
-class PacketRefused(Exception):
-    """A packet that isn't taken; the text is the reason under which it is counted."""
+VERSION_BITS = 0xC0
 
 
 Packet = Tuple[
@@ -24,34 +24,11 @@ Packet = Tuple[
 ]  # what came: payload type, sequence number, time stamp, source (SSRC) and payload
 
 
-def payload_of(data: bytes) -> bytes:
-    """The payload between contributing sources, header extension and padding (section 5.1)."""
-    at, end = HEADER.size + 4 * (data[0] & 15), len(data)
-    if data[0] & 16:
-        if end < at + 4:
-            raise PacketRefused("not-rtp")
-        at += 4 + 4 * int.from_bytes(data[at + 2 : at + 4], "big")
-    if data[0] & 32:
-        if data[-1] == 0:
-            raise PacketRefused("not-rtp")
-        end -= data[-1]
-    if at > end:
-        raise PacketRefused("not-rtp")
-    return data[at:end]
-
-
 def parse(data: bytes) -> Packet:
     """The packet in a datagram. Raises PacketRefused if it is none, or RTCP on the same port (RFC
     5761)."""
-    if len(data) < HEADER.size:
-        raise PacketRefused("not-rtp")
-    first, second, number, stamp, source = HEADER.unpack_from(data)
-    if first >> 6 != 2:
-        raise PacketRefused("not-rtp")
-    kind = second & 127
-    if 64 <= kind <= 95:
-        raise PacketRefused("rtcp")
-    return kind, number, stamp, source, payload_of(data) if first & 63 else data[HEADER.size :]
+    head = head_of(data)
+    return (*head, payload_of(data) if data[0] & ~VERSION_BITS else data[HEADER.size :])
 
 
 class Outgoing:

@@ -5,8 +5,8 @@ import argparse
 from pathlib import Path
 from typing import Tuple
 
-from trau.command_line.words import number_within, option, switch
-from trau.recordings import captures, file_kinds, recordings, rtp_packets
+from trau.command_line.words import Refusal, number_within, option, switch
+from trau.recordings import capture_walk, captures, file_kinds, recordings, rtp_packets
 from trau.recordings.code_word import Marker
 from trau.recordings.commands import (
     LAW,
@@ -18,9 +18,12 @@ from trau.recordings.commands import (
     partial,
     trust,
 )
+from trau.recordings.file_descriptions import FileKind
 from trau.recordings.sound_commands import check_law
+from trau.rules.payload_types import GSM
 
 MOST_STREAMS = 1_000_000
+CONTENTS = {GSM: Content.UPLINK, rtp_packets.TRAU_FRAMES: Content.CHANNEL}
 
 
 def streams_word(word: str) -> Tuple[int, ...]:
@@ -36,7 +39,26 @@ def type_word(word: str) -> Tuple[int, int]:
     return number_within(0, rtp_packets.MOST_TYPE)(number), rtp_packets.KINDS[name]
 
 
-def pcap(words: argparse.Namespace, given: bytes) -> MadeFile:
+TYPE = option(
+    "--type",
+    type=type_word,
+    action="append",
+    default=[],
+    metavar="T=KIND",
+    help="the payload type T, 0 to 127, is gsm, pcma or pcmu, as the sender's SDP says of a"
+    " dynamic type; may be repeated",
+)
+GAP = option(
+    "--gap",
+    choices=("lost", "idle"),
+    default="lost",
+    help="what frames are that the time stamps leave out after speech while no number is"
+    " missing: lost, as of a base station (default), or idle frames, for a sender that"
+    " pauses without a silence descriptor",
+)
+
+
+def pcap(words: argparse.Namespace, _: bytes) -> MadeFile:
     """Makes a line from an RTP stream of a capture (pcap or pcapng), by its time stamps: an uplink
     from GSM (payload type 3), a Pcm line from PCMA (8) or PCMU (0). Frames that didn't come become
     unusable frames; in a pause each 24th frame after a silence descriptor has TAF 1. Samples that
@@ -49,10 +71,12 @@ def pcap(words: argparse.Namespace, given: bytes) -> MadeFile:
     out. With --restart `restarts M` follows, with --partial `cut P wrong Q`: packets that weren't
     captured whole, and that have no whole frames."""
     not_this = "no capture in pcap or pcapng"
-    file_kinds.refuse_other(words.given, given, not_this, file_kinds.FileKind.CAPTURE)
-    marker = Marker(words.sid == "keep")
-    line, said, is_uplink = captures.line_of(words.given, given, words, marker)
-    return MadeFile(line, said, Content.UPLINK if is_uplink else Content.SOUND)
+    data = recordings.mapped(words.given, words.partial)
+    if not capture_walk.is_capture(data[: file_kinds.EXCERPT_OCTETS]):
+        file_kinds.refuse_other(words.given, data[:], not_this)
+        raise Refusal(f"{words.given}: isn't a capture: it begins as none does")
+    line = captures.line_of(words.given, data, words, Marker(words.sid == "keep"))
+    return MadeFile(line.chunks, line.said, CONTENTS.get(line.kind, Content.SOUND))
 
 
 PCAP = FileCommand(
@@ -70,15 +94,7 @@ PCAP = FileCommand(
             " Several with commas between follow one another by the times of the capture, as those"
             " of a call whose sender changes",
         ),
-        option(
-            "--type",
-            type=type_word,
-            action="append",
-            default=[],
-            metavar="T=KIND",
-            help="the payload type T, 0 to 127, is gsm, pcma or pcmu, as the sender's SDP says of a"
-            " dynamic type; may be repeated",
-        ),
+        TYPE,
         option(
             "--since",
             type=int,
@@ -86,23 +102,21 @@ PCAP = FileCommand(
             help="begin the line when this stream began, by the times of the capture, so that the"
             " lines of a call keep step",
         ),
-        option(
-            "--gap",
-            choices=("lost", "idle"),
-            default="lost",
-            help="what frames are that the time stamps leave out after speech while no number is"
-            " missing: lost, as of a base station (default), or idle frames, for a sender that"
-            " pauses without a silence descriptor",
-        ),
+        GAP,
         switch(
             "--restart",
             "where time stamps jump, as of a sender that began anew, go on by the times of the"
             " capture; without it the capture is refused",
         ),
+        switch(
+            "--long-gaps",
+            "take time stamps that leave out more than an hour at once, or more than a day in all",
+        ),
         SID,
         partial("packets that weren't captured whole, or have no whole frames, count as lost"),
         LAW,
     ),
+    read=lambda words: b"",
 )
 
 
@@ -118,7 +132,7 @@ def capture(words: argparse.Namespace, given: bytes) -> MadeFile:
     for name, octets in lines:
         if is_sound_by_name(name):
             check_law(words, name, octets, "lines.py capture {} NEW.pcap")
-    octets, said = captures.capture_of(lines, words.law)
+    octets, said = captures.capture_of(lines, words.law, words.silence == "keep")
     return MadeFile(octets, said, Content.CAPTURE)
 
 
@@ -135,6 +149,13 @@ CAPTURE = FileCommand(
             default=[],
             metavar="LINE",
             help="add a line as a stream of its own",
+        ),
+        option(
+            "--silence",
+            choices=("noise", "keep"),
+            default="noise",
+            help="what to send in pauses: comfort noise (default), or what base stations send: a"
+            " silence descriptor at a pause's start and in each 24th period, and nothing else",
         ),
         trust(),
         LAW,

@@ -7,26 +7,26 @@ with a word.
 
 import argparse
 import io
+import itertools
 from collections import Counter
 from pathlib import Path
-from typing import Iterable, Iterator, List, NamedTuple, Optional, Sequence, Tuple
+from typing import Callable, Iterable, Iterator, List, NamedTuple, Optional, Sequence, Tuple, Union
 
 from trau.command_line.words import Refusal
 from trau.recordings import uplink_frames
-from trau.recordings.code_word import Marker
-from trau.recordings.rtp_packets import (
-    NAMES,
-    PLAIN_TYPES,
+from trau.recordings.code_word import CODE_WORD_BITS, Marker
+from trau.recordings.capture_streams import (
+    CapturedFlow,
     CapturedStreams,
-    Packet,
-    chosen,
     kind_of,
-    library,
     periods_between,
     streams_of,
 )
+from trau.recordings.capture_walk import CaptureOctets
+from trau.recordings.rtp_packets import NAMES, PLAIN_TYPES, TRAU_FRAMES, Packet, library
 from trau.recordings.rtp_streams import (
     EMPTY,
+    MOST_GAPS,
     SEQUENCES,
     STAMPS,
     Counts,
@@ -43,18 +43,18 @@ from trau.rules.noise import RandomSource, comfort_noise
 from trau.rules.parameters import (
     SILENCE,
     bits_of_parameters,
-    data_of_gsm,
     gsm_of_data,
     parameters_of_bits,
 )
 from trau.rules.payload_types import GSM, PCMA, PCMU
-from trau.rules.profile import PCM_OCTETS, SAMPLES_A_SECOND
+from trau.rules.profile import PCM_OCTETS, PERIODS_A_SECOND, SAMPLES_A_SECOND, TAF_PERIODS
 from trau.rules.search import FRAME_OF_DOWNLINK, kind_of_period, yields_by_period
 from trau.runs import run_lines
 from trau.runs.uplink_periods import FRAME_KINDS
 
 LAWS = {PCMA: Law.A, PCMU: Law.MU}
 IDLE_UPLINK = uplink_frames.IDLE
+MOST_LEAD = MOST_GAPS // PCM_OCTETS  # periods
 
 # To lines
 
@@ -64,98 +64,191 @@ IDLE_UPLINK = uplink_frames.IDLE
 LOST, GAP, EMPTIED, PAUSED = "lost", "gap", "empty", "paused"
 
 
+CHUNK_OCTETS = 1 << 20  # of a line that is written as it is made
+CHUNK_UNITS = 1 << 17
+
+
+def in_parts(units: int) -> Iterator[int]:
+    """So many units in parts that fit into the memory."""
+    for place in range(0, units, CHUNK_UNITS):
+        yield min(CHUNK_UNITS, units - place)
+
+
+class UplinkOfStream:
+    """An uplink after a lead of idle frames: the frames of a stream as they are marked, and
+    unusable ones for those that didn't come, which let the noise of a pause go on. If gaps are
+    idle, the sender has no descriptors and sends nothing in pauses."""
+
+    def __init__(
+        self, found: Iterable[Stretch], lead: int, marker: Marker, gaps_are_idle: bool
+    ) -> None:
+        self.found, self.lead, self.marker, self.gaps_are_idle = found, lead, marker, gaps_are_idle
+        self.missing: Counter = Counter()
+
+    def chunks(self) -> Iterator[bytes]:
+        """The line, as it is made."""
+        for part in in_parts(self.lead):
+            yield part * IDLE_UPLINK
+        line = UplinkFrames(self.marker)
+        for stretch in self.found:
+            for _ in self.taken(line, stretch):
+                if len(line.frames) >= CHUNK_OCTETS:
+                    yield line.drained()
+        yield line.drained()
+
+    def taken(self, line: UplinkFrames, stretch: Stretch) -> Iterator[int]:
+        """Takes a stretch, part by part."""
+        if isinstance(stretch, list):
+            self.missing[EMPTIED] += stretch.count(EMPTY)
+            line.take_gsm(stretch)
+            yield len(stretch)
+            return
+        what = LOST if isinstance(stretch, LostUnits) else PAUSED if line.pauses() else GAP
+        self.missing[what] += stretch.units
+        for part in in_parts(stretch.units):
+            if what == GAP and self.gaps_are_idle:
+                line.idle(part)
+            else:
+                line.lose(part)
+            yield part
+
+    def said(self) -> str:
+        """What the line has, when it is made."""
+        didnt_come = " ".join(
+            f"{what} {self.missing[what]}" for what in (LOST, GAP, EMPTIED, PAUSED)
+        )
+        frames = sum(self.marker.counts.values())
+        return f"frames {frames} {self.marker.said()} {didnt_come} lead {self.lead}"
+
+
+class PcmOfStream:
+    """A Pcm line of whole periods after a lead of idle ones: each octet of the law that was sent as
+    one of the line's, and idle ones where none came."""
+
+    def __init__(self, found: Iterable[Stretch], lead: int, sent: Law, law: Law) -> None:
+        self.found, self.lead, self.table = found, lead, sent.table_to(law)
+        self.idle = bytes([law.idle()])
+        self.units: Counter = Counter()  # by kinds of stretches
+        self.padded = 0
+
+    def chunks(self) -> Iterator[bytes]:
+        """The line, as it is made."""
+        for part in in_parts(self.lead * PCM_OCTETS):
+            yield part * self.idle
+        for stretch in self.found:
+            if isinstance(stretch, list):
+                self.units[list] += len(stretch)
+                yield bytes(stretch).translate(self.table)
+                continue
+            self.units[type(stretch)] += stretch.units
+            for part in in_parts(stretch.units):
+                yield part * self.idle
+        self.padded = -sum(self.units.values()) % PCM_OCTETS
+        yield self.padded * self.idle
+
+    def said(self) -> str:
+        """What the line has, in octets, when it is made."""
+        octets, lost, gap = (self.units[kind] for kind in (list, LostUnits, Gap))
+        return f"octets {octets} lost {lost} gap {gap} lead {self.lead} padded {self.padded}"
+
+
 def uplink_of(
     found: Iterable[Stretch], lead: int, marker: Marker, gaps_are_idle: bool
 ) -> Tuple[bytes, str]:
-    """An uplink after a lead of idle frames, and what it has: the frames as they are marked, and
-    unusable ones for those that didn't come, which let the noise of a pause go on. If gaps are
-    idle, the sender has no descriptors and sends nothing in pauses."""
-    line = UplinkFrames(marker)
-    missing: Counter = Counter()
-    for stretch in found:
-        if isinstance(stretch, list):
-            missing[EMPTIED] += stretch.count(EMPTY)
-            line.take_all(None if frame == EMPTY else data_of_gsm(frame) for frame in stretch)
-            continue
-        what = LOST if isinstance(stretch, LostUnits) else PAUSED if line.pauses() else GAP
-        missing[what] += stretch.units
-        if what == GAP and gaps_are_idle:
-            line.idle(stretch.units)
-        else:
-            line.lose(stretch.units)
-    didnt_come = " ".join(f"{what} {missing[what]}" for what in (LOST, GAP, EMPTIED, PAUSED))
-    return (
-        lead * IDLE_UPLINK + line.line(),
-        f"frames {sum(marker.counts.values())} {marker.said()} {didnt_come} lead {lead}",
-    )
-
-
-def total(found: Sequence[Stretch], kind: type) -> int:
-    """How many units the stretches of a kind have."""
-    return sum(
-        len(each) if isinstance(each, list) else each.units
-        for each in found
-        if isinstance(each, kind)
-    )
+    """An uplink of a stream in memory, and what it has."""
+    line = UplinkOfStream(found, lead, marker, gaps_are_idle)
+    return b"".join(line.chunks()), line.said()
 
 
 def pcm_of(found: Iterable[Stretch], lead: int, sent: Law, law: Law) -> Tuple[bytes, str]:
-    """A Pcm line of whole periods after a lead of idle ones, and what it has, in octets: each octet
-    of the law that was sent as one of the line's, and idle ones where none came."""
-    table, idle, parts = sent.table_to(law), bytes([law.idle()]), list(found)
-    octets = (
-        bytes(each).translate(table) if isinstance(each, list) else each.units * idle
-        for each in parts
-    )
-    line = b"".join([lead * PCM_OCTETS * idle, *octets])
-    padded = -len(line) % PCM_OCTETS
-    said = f"octets {total(parts, list)} lost {total(parts, LostUnits)} gap {total(parts, Gap)} lead {lead} padded {padded}"
-    return line + padded * idle, said
+    """A Pcm line of a stream in memory, and what it has."""
+    line = PcmOfStream(found, lead, sent, law)
+    return b"".join(line.chunks()), line.said()
 
 
 MOST_OVERLAP = 1.0  # seconds, in which the streams of a call may overlap that are joined
 
 
-def chosen_streams(
-    name: Path, streams: CapturedStreams, numbers: Sequence[int]
-) -> List[List[Packet]]:
-    """The packets of the streams with these numbers, which follow one another and are of one kind;
-    or of the only one."""
-    found = [chosen(name, streams, "--stream", number) for number in numbers or (None,)]
-    for at, (before, packets) in enumerate(zip(found, found[1:])):
-        overlap = before[-1].time - packets[0].time
-        if overlap > MOST_OVERLAP or packets[0].time <= before[0].time:
+def chosen_streams(streams: CapturedStreams, numbers: Sequence[int]) -> List[CapturedFlow]:
+    """The streams with these numbers, which follow one another and are of one kind; or the only
+    one."""
+    found = [streams.chosen("--stream", number) for number in numbers or (None,)]
+    for at, (before, flow) in enumerate(zip(found, found[1:])):
+        overlap = before.last - flow.first
+        if overlap > MOST_OVERLAP or flow.first <= before.first:
             raise Refusal(
-                f"{name}: stream {numbers[at + 1]} begins {overlap:.2f} s before stream {numbers[at]} ends; streams that are joined"
+                f"{streams.name}: stream {numbers[at + 1]} begins {overlap:.2f} s before stream {numbers[at]} ends; streams that are joined"
                 " follow one another"
             )
-    kind_of([packet for packets in found for packet in packets])
+    kind_of(found)
     return found
 
 
+class LineOfStreams(NamedTuple):
+    """A line that is made of the streams of a capture as it is written: its octets in chunks, what
+    was found, once they are all made, and the kind of the streams."""
+
+    chunks: Iterator[bytes]
+    said: Callable[[], str]
+    kind: int
+
+
+def channel_of(packets: Iterable[Packet], counts: Counts) -> Iterator[bytes]:
+    """A channel of 16 kbit/s of the frames that packets have, one after the other."""
+    for packet in packets:
+        counts.packets += 1
+        yield packet.payload
+
+
+def unread_said(streams: CapturedStreams) -> str:
+    """The packets of a capture that can't be read, in words that follow others."""
+    unread = streams.whole.unread_said()
+    return f"; not read: {unread}" if unread else ""
+
+
 def line_of(
-    name: Path, content: bytes, asked: argparse.Namespace, marker: Marker
-) -> Tuple[bytes, str, bool]:
+    name: Path, data: CaptureOctets, asked: argparse.Namespace, marker: Marker
+) -> LineOfStreams:
     """A line of the streams of a capture that the words ask for, an uplink of GSM and a Pcm line of
-    the others; what was found; and whether it is an uplink."""
-    streams = streams_of(name, content, asked.partial, {**PLAIN_TYPES, **dict(asked.type)})
-    packets = chosen_streams(name, streams, asked.stream)
+    the others."""
+    streams = streams_of(name, data, asked.partial, {**PLAIN_TYPES, **dict(asked.type)})
+    flows = chosen_streams(streams, asked.stream)
     lead = 0
     if asked.since is not None:
-        lead = periods_between(name, chosen(name, streams, "--since", asked.since), packets[0])
-    kind = kind_of(packets[0])
+        lead = periods_between(name, streams.chosen("--since", asked.since), flows[0])
+    if lead > MOST_LEAD and not asked.long_gaps:
+        raise Refusal(
+            f"{name}: the stream begins {lead // PERIODS_A_SECOND} s after that of --since; at most"
+            f" {MOST_LEAD // PERIODS_A_SECOND} s are taken; --long-gaps takes any"
+        )
+    kind = kind_of(flows)
     counts = Counts()
-    packets = [without_wrong(name, each, asked.partial, counts) for each in packets]
-    found = stretches(name, packets, kind, asked.restart, counts)
+    if kind == TRAU_FRAMES:
+        frames = itertools.chain.from_iterable(map(streams.packets, flows))
+        return LineOfStreams(
+            channel_of(frames, counts),
+            lambda: f"pcap trau frames {counts.packets}{unread_said(streams)}",
+            kind,
+        )
+    packets = [without_wrong(name, streams.packets(flow), asked.partial, counts) for flow in flows]
+    found = stretches(name, packets, kind, asked.restart, counts, asked.long_gaps)
+    line: Union[UplinkOfStream, PcmOfStream]
     if kind == GSM:
-        line, units = uplink_of(found, lead, marker, asked.gap == "idle")
+        line = UplinkOfStream(found, lead, marker, asked.gap == "idle")
     else:
-        line, units = pcm_of(found, lead, LAWS[kind], asked.law)
-    said = f"pcap {NAMES[kind]} packets {counts.packets} late {counts.late} doubled {counts.doubled} others {counts.others} {units}"
-    said += f" over {counts.over}" if counts.over else ""
-    said += f" restarts {counts.restarts}" if asked.restart else ""
-    said += f" cut {streams.cut} wrong {counts.wrong}" if asked.partial else ""
-    return line, said, kind == GSM
+        line = PcmOfStream(found, lead, LAWS[kind], asked.law)
+
+    def said() -> str:
+        """What was found."""
+        return (
+            f"pcap {NAMES[kind]} packets {counts.packets} late {counts.late} doubled {counts.doubled} others {counts.others} {line.said()}"
+            + (f" over {counts.over}" if counts.over else "")
+            + (f" restarts {counts.restarts}" if asked.restart else "")
+            + (f" cut {streams.cut} wrong {counts.wrong}" if asked.partial else "")
+            + unread_said(streams)
+        )
+
+    return LineOfStreams(line.chunks(), said, kind)
 
 
 # From lines
@@ -169,43 +262,79 @@ class Sound(NamedTuple):
     payload: Optional[bytes]
 
 
-def sounds_of_uplink(octets: bytes) -> Iterator[Sound]:
-    """What an uplink gives: good frames; lost ones; comfort noise in pauses; nothing elsewhere."""
+def marked(data: str) -> bytes:
+    """A silence descriptor with its code word, by which who receives it knows it."""
+    bits = list(data)
+    for bit in CODE_WORD_BITS:
+        bits[bit] = "0"
+    return gsm_of_data("".join(bits))
+
+
+class Pauses:
+    """What is sent in pauses: comfort noise in each period or, if descriptors are kept, what a base
+    station sends: a descriptor at a pause's start and in each 24th period of it, and nothing
+    else."""
+
+    def __init__(self, keeps: bool) -> None:
+        self.keeps = keeps
+        self.source = RandomSource(1)
+        self.descriptor = bits_of_parameters(SILENCE)
+        self.periods: Optional[int] = None  # since the pause began
+
+    def end(self) -> None:
+        """A period without pause."""
+        self.periods = None
+
+    def sent(self) -> Optional[bytes]:
+        """What is sent in the next period of a pause, by the latest descriptor."""
+        self.periods = 0 if self.periods is None else self.periods + 1
+        if not self.keeps:
+            noise = comfort_noise(parameters_of_bits(self.descriptor), self.source)
+            return gsm_of_data(bits_of_parameters(noise))
+        return marked(self.descriptor) if self.periods % TAF_PERIODS == 0 else None
+
+
+def sounds_of_uplink(octets: bytes, keeps: bool = False) -> Iterator[Sound]:
+    """What an uplink gives: good frames; lost ones; pauses; nothing elsewhere."""
     yields = yields_by_period(bits_of(octets))
     kinds = [kind_of_period(each) for each in yields]
-    source = RandomSource(1)
-    descriptor = SILENCE
+    pauses = Pauses(keeps)
     heard = run_lines.heard_codes(bytes(map(FRAME_KINDS.index, kinds)))
     for period, (each, kind, code) in enumerate(zip(yields, kinds, heard)):
         stamp = period * PCM_OCTETS
         data = data_of(each.frame) if each and each.frame else ""
         if kind is FrameKind.VALID_SID:
-            descriptor = parameters_of_bits(data)
+            pauses.descriptor = data
+        if code == run_lines.NOISE_HEARD:
+            payload = pauses.sent()
+            if payload:
+                yield Sound(stamp, payload)
+            continue
+        pauses.end()
         if code == run_lines.SPEECH_HEARD:
             yield Sound(stamp, gsm_of_data(data))
-        elif code == run_lines.NOISE_HEARD:
-            yield Sound(stamp, gsm_of_data(bits_of_parameters(comfort_noise(descriptor, source))))
         elif code == run_lines.LOST_HEARD:
             yield Sound(stamp, None)
 
 
-def sounds_of_downlink(octets: bytes) -> Iterator[Sound]:
-    """What a downlink gives, at the time of each frame: speech, comfort noise for silence
-    descriptors, nothing for idle ones."""
-    source = RandomSource(1)
+def sounds_of_downlink(octets: bytes, keeps: bool = False) -> Iterator[Sound]:
+    """What a downlink gives, at the time of each frame: speech, pauses, nothing for idle frames."""
+    pauses = Pauses(keeps)
     for found in FRAME_OF_DOWNLINK.finditer(bits_of(octets)):
         frame = read_down(found.group())
+        stamp = found.start() // 2  # two bits of the line are the time of a sample
+        if frame.is_speech() and frame.kind is not FrameKind.SPEECH:
+            pauses.descriptor = frame.data
+            payload = pauses.sent()
+            if payload:
+                yield Sound(stamp, payload)
+            continue
+        pauses.end()
         if frame.is_speech():
-            data = (
-                frame.data
-                if frame.kind is FrameKind.SPEECH
-                else bits_of_parameters(comfort_noise(parameters_of_bits(frame.data), source))
-            )
-            # Two bits of the line are the time of a sample.
-            yield Sound(found.start() // 2, gsm_of_data(data))
+            yield Sound(stamp, gsm_of_data(frame.data))
 
 
-def sounds_of_octets(octets: bytes) -> Iterator[Sound]:
+def sounds_of_octets(octets: bytes, keeps: bool = False) -> Iterator[Sound]:
     """What a line from or to the exchange gives."""
     for place in range(0, len(octets), PCM_OCTETS):
         yield Sound(place, octets[place : place + PCM_OCTETS])
@@ -254,9 +383,11 @@ def packets_of(stream: int, kind: int, sounds: Iterable[Sound]) -> Iterator[Tupl
         following = sound.stamp + PCM_OCTETS
 
 
-def capture_of(lines: Sequence[Tuple[Path, bytes]], law: Law) -> Tuple[bytes, str]:
-    """A capture of the lines, each a stream, those from and to the exchange with this law; and what
-    it has."""
+def capture_of(
+    lines: Sequence[Tuple[Path, bytes]], law: Law, keeps: bool = False
+) -> Tuple[bytes, str]:
+    """A capture of the lines, each a stream, those from and to the exchange with this law, with
+    comfort noise in pauses or the descriptors that are kept; and what it has."""
     if len(lines) >= 1 << 16:
         raise Refusal(f"{len(lines)} lines: fewer than {1 << 16} make a capture")
     packets: List[Tuple[float, bytes]] = []
@@ -267,7 +398,7 @@ def capture_of(lines: Sequence[Tuple[Path, bytes]], law: Law) -> Tuple[bytes, st
         kind, sounds = SOUNDS[side]
         if kind == PCMA and law is Law.MU:
             kind = PCMU
-        packets += packets_of(stream, kind, sounds(octets))
+        packets += packets_of(stream, kind, sounds(octets, keeps))
     if not packets:
         raise Refusal(f"{lines[0][0]}: gives no speech to send")
     file = io.BytesIO()

@@ -7,11 +7,11 @@ import inspect
 import sys
 from dataclasses import dataclass
 from pathlib import Path
-from typing import Any, Callable, NamedTuple, Sequence
+from typing import Any, Callable, Iterator, NamedTuple, Sequence, Union
 
 from trau.command_line.files import STREAM, write_file
 from trau.command_line.words import Option, Refusal, as_started, option, switch
-from trau.recordings import file_kinds, recordings
+from trau.recordings import file_heads, recordings
 from trau.rules.g711 import Law
 
 
@@ -33,11 +33,11 @@ class Content(enum.Enum):
 
 
 class MadeFile(NamedTuple):
-    """The octets of a file that a command made, a line that says what was done, and what the file
-    has."""
+    """The octets of a file that a command made, at once or as they are made, a line that says what
+    was done, and what the file has."""
 
-    octets: bytes
-    said: str
+    octets: Union[bytes, Iterator[bytes]]
+    said: Union[str, Callable[[], str]]
     content: Content
 
 
@@ -47,7 +47,7 @@ SAID_OF_ENDINGS = {
     for content in (Content.UPLINK, Content.SOUND, Content.WAV, Content.FRAMES, Content.CAPTURE)
     for ending in content.endings
 }
-SAID_OF_ENDINGS.update({".down": "a downlink", recordings.PACKED: file_kinds.PACKED_BY_GZIP})
+SAID_OF_ENDINGS.update({".down": "a downlink", recordings.PACKED: file_heads.PACKED_BY_GZIP})
 MAKES_SOUND = {
     Content.UPLINK: "lines.py listen NEW.up",
     Content.SOUND: "lines.py sound NEW.pcm",
@@ -105,7 +105,8 @@ class FileCommand:
         check_new_name(words.new, made.content)
         inputs = [words.given] if words.given else []
         write_file(words.new, made.octets, [*inputs, *words.also])
-        print(made.said, file=sys.stderr if words.new == STREAM else sys.stdout)
+        said = made.said if isinstance(made.said, str) else made.said()
+        print(said, file=sys.stderr if words.new == STREAM else sys.stdout)
         return 0
 
     def add_to(self, add: Callable[..., Any]) -> None:

@@ -4,13 +4,22 @@ libgsm, lines of frames to sound, and damage to an uplink."""
 import argparse
 from pathlib import Path
 
-from trau.command_line.words import Refusal, as_started, number_within, option
+from trau.command_line.words import Refusal, as_started, number_within, option, switch
 from trau.recordings import damages, file_kinds, gsm_files, listening, recordings
 from trau.recordings.code_word import Marker
-from trau.recordings.commands import SID, Content, FileCommand, MadeFile, is_sound_by_name, partial
-from trau.recordings.wav_files import wav_of_law
-from trau.rules.g711 import Law
-from trau.rules.parameters import gsm_of_data
+from trau.recordings.excerpts import excerpts_of
+from trau.recordings.commands import (
+    LAW,
+    SID,
+    Content,
+    FileCommand,
+    MadeFile,
+    is_sound_by_name,
+    partial,
+)
+from trau.recordings.heard_uplinks import heard_of_uplink
+from trau.recordings.wav_files import wav_of_samples
+from trau.rules.parameters import GSM_OCTETS, SILENCE, bits_of_parameters, gsm_of_data
 from trau.rules.profile import FRAME_BITS, MOST_STAMP, PERIODS_A_SECOND, SAMPLES_A_SECOND
 
 
@@ -18,8 +27,8 @@ def check_frames(name: Path, octets: bytes) -> None:
     """Refuses a file that plainly isn't a line of frames, by its head, or by the name of a line of
     A-law or mu-law if it shows none."""
     not_this = "no line of frames"
-    file_kinds.refuse_other(name, octets, not_this, tests=file_kinds.TESTS_OF_HEADS)
-    if is_sound_by_name(name) and not file_kinds.frames_of(octets[: file_kinds.HEAD_OCTETS]):
+    file_kinds.refuse_head(name, octets, not_this)
+    if is_sound_by_name(name) and not file_kinds.frames_in(excerpts_of(octets)):
         file_kinds.refuse_other(name, octets, not_this)
         command = as_started(f"lines.py sound {recordings.quoted(name)} NEW.wav")
         raise Refusal(
@@ -74,10 +83,24 @@ def gsm(words: argparse.Namespace, given: bytes) -> MadeFile:
     frame."""
     check_frames(words.given, given)
     treatments = {"speech": "keep", "silence": words.silence, "idle": words.idle, "other": "skip"}
+    if words.heard:
+        return gsm_of_uplink(words, given)
     found = gsm_files.treated_downlink(words.given, given, treatments)
     frames = [gsm_of_data(data) for _, data in found.frames]
     said = f"gsm frames {len(frames)} found {found.said}"
     return MadeFile(b"".join(frames), said, Content.FRAMES)
+
+
+def gsm_of_uplink(words: argparse.Namespace, given: bytes) -> MadeFile:
+    """The frames that are heard of an uplink."""
+    heard = heard_of_uplink(given)
+    quiet = gsm_of_data(bits_of_parameters(SILENCE)) if words.idle == "quiet" else b""
+    frames = [quiet if frame is None else frame for frame in heard.frames]
+    octets = b"".join(frames)
+    if not octets:
+        raise Refusal(f"{words.given}: no frame of an uplink would be written: {heard.said()}")
+    said = f"gsm frames {len(octets) // GSM_OCTETS} {heard.said()}"
+    return MadeFile(octets, said, Content.FRAMES)
 
 
 GSM = FileCommand(
@@ -101,6 +124,12 @@ GSM = FileCommand(
             help="what to write for an idle frame: nothing (default), or a frame of silence, which"
             " keeps the time",
         ),
+        switch(
+            "--heard",
+            "the line is an uplink: write for each period what a call decodes, which is made where"
+            " speech was lost and in pauses; quiet periods are as idle frames. Prints the counts of"
+            " `listen`",
+        ),
     ),
 )
 
@@ -109,23 +138,39 @@ def listen(words: argparse.Namespace, given: bytes) -> MadeFile:
     """Makes a WAV file (8000 Hz, mono, 16 bits linear) of the sound of a downlink or an uplink.
 
     Downlink: finds its frames at any bit, and decodes them by the C library, if clib/build made it
-    or it is installed, else by the program `trau`; both give the same. Silence descriptors give
+    or it is installed, else by the program `trau`, if it is built, and else by the model, which is
+    slow; all give the same. Silence descriptors give
     comfort noise; idle frames, and periods without a frame, give silence. Prints `listen samples N
     found speech A silence B idle C other D outside E`.
 
     Uplink: runs it by the program `trau` as a call with an idle Pcm line, so that lost speech,
-    pauses and the search for frames sound as they do on the Out line. Prints `listen samples N
+    pauses and the search for frames sound as they do on the Out line. Where the program isn't
+    built, the library or the model gives the same. Prints `listen samples N
     uplink good G sid V invalid I bad U idle Z other O miss M none N`: the counts of the run's
     report.
+
+    With --both it makes a stereo file: left what comes from the exchange, of the line that is
+    named, a Pcm line or a downlink; right this line, an uplink. Both begin with the call's first
+    period. --losses quiet has silence where speech of an uplink was lost, and --linear the
+    decoder's own samples of 13 bits, which the program doesn't give.
 
     Times in the sound count from the call's first period, and not from the run's; `report.py
     losses` prints both."""
     check_frames(words.given, given)
-    octets, said = listening.alaw_of_line(words.given, given, words.trau)
+    if words.linear and words.trau:
+        raise Refusal("--linear: the program gives A-law alone, so --trau can't be with it")
+    wanted = listening.WantedSound(words.trau, words.linear, words.losses == "quiet")
+    samples, said = listening.samples_of_line(words.given, given, wanted)
     if words.start is not None:
         start = words.start / PERIODS_A_SECOND
-        said += f" run {start:.2f} to {start + len(octets) / SAMPLES_A_SECOND:.2f}"
-    return MadeFile(wav_of_law(octets, Law.A), f"listen samples {len(octets)} {said}", Content.WAV)
+        said += f" run {start:.2f} to {start + len(samples) / SAMPLES_A_SECOND:.2f}"
+    said = f"listen samples {len(samples)} {said}"
+    if words.both is None:
+        return MadeFile(wav_of_samples(samples), said, Content.WAV)
+    other = recordings.read_recording(words.both)
+    left = listening.samples_of_side(words.both, other, words.law, wanted)
+    stereo = listening.side_by_side(left, samples)
+    return MadeFile(wav_of_samples(stereo, 2), f"{said} both {len(left)}", Content.WAV)
 
 
 LISTEN = FileCommand(
@@ -147,6 +192,21 @@ LISTEN = FileCommand(
             metavar="PROGRAM",
             help="decode or run by this program and not by the library",
         ),
+        option(
+            "--both",
+            type=Path,
+            metavar="LINE",
+            help="make a stereo file: LINE, from the exchange, is left, and this line right",
+        ),
+        option(
+            "--losses",
+            choices=("made", "quiet"),
+            default="made",
+            help="what lost speech of an uplink sounds like: what is made for it (default), or"
+            " silence",
+        ),
+        switch("--linear", "the decoder's own samples of 13 bits, in place of those of A-law"),
+        LAW,
     ),
 )
 

@@ -6,8 +6,9 @@ from pathlib import Path
 from typing import List, Mapping, NamedTuple, Optional, Tuple
 
 from trau.command_line.words import Refusal, as_started
-from trau.recordings import file_kinds, wav_files
+from trau.recordings import file_heads, file_kinds, wav_files
 from trau.recordings.code_word import Marker
+from trau.recordings.file_descriptions import FileKind
 from trau.recordings.recordings import command_of_others, quoted
 from trau.recordings.uplink_frames import UplinkFrames
 from trau.rules.frame import FrameKind, bits_of, read_down, read_up
@@ -55,7 +56,7 @@ def data_of_file(name: Path, given: bytes, partial: bool, zeros_are_lost: bool) 
         None,
     )
     if wrong is not None or not whole or left and not partial:
-        file_kinds.refuse_other(name, given, "no frames of libgsm", file_kinds.FileKind.GSM)
+        file_kinds.refuse_other(name, given, "no frames of libgsm", FileKind.GSM)
     if not whole or left and not partial:
         raise Refusal(
             f"{name}: {len(given)} octets are no frames of libgsm, which have {size} octets each"
@@ -68,7 +69,7 @@ def data_of_file(name: Path, given: bytes, partial: bool, zeros_are_lost: bool) 
         )
     if all(is_lost):
         raise Refusal(f"{name}: has only zeros")
-    if file_kinds.is_mostly_magic(whole):
+    if file_heads.is_mostly_magic(whole):
         raise Refusal(
             f"{name}: nearly each of its octets begins with 1101, as in idle A-law and not in frames of libgsm"
         )
@@ -83,7 +84,7 @@ def data_of_wav(name: Path, given: bytes, partial: bool) -> Found:
     if wav.tag != wav_files.WAV_GSM:
         raise Refusal(
             f"{name}: is a WAV file of samples and not of GSM frames; sox makes frames of libgsm of it:"
-            f" {command_of_others('sox {} -r 8000 -c 1 NEW.gsm', name)}"
+            f" {command_of_others('sox -D {} -r 8000 -c 1 NEW.gsm', name)}"
         )
     size = WAV_BLOCK_OCTETS
     # sox counts the octet that makes an odd number of octets even.

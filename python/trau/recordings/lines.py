@@ -15,7 +15,13 @@ from typing import Sequence
 
 from trau.command_line.ends import tool
 from trau.command_line.words import Words, option
-from trau.recordings import capture_commands, frame_commands, slot_commands, sound_commands
+from trau.recordings import (
+    capture_commands,
+    frame_commands,
+    recording_commands,
+    slot_commands,
+    sound_commands,
+)
 from trau.recordings.looking import look
 
 COMMANDS = (
@@ -41,6 +47,7 @@ def main(words: Sequence[str]) -> int:
         "files", type=Path, nargs="+", metavar="FILE", help="a file, or - for standard input"
     )
     add(look, "what files are", inspect.getdoc(look), files, example="*")
+    recording_commands.add_to(add)
     for command in COMMANDS:
         command.add_to(add)
     asked = program.parse_args(words)

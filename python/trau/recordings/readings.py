@@ -11,6 +11,7 @@ import math
 import operator
 import sys
 from array import array
+from collections import Counter
 from typing import Dict, NamedTuple, Optional, Sequence
 
 from trau.rules.g711 import Law, expand_all
@@ -120,3 +121,25 @@ def plainly_other(octets: bytes, law: Law) -> Optional[Reading]:
 
     plain = [reading for reading, value in found.items() if expected - value >= margin(reading)]
     return min(plain, key=found.__getitem__) if plain else None
+
+
+# Blocks with heads between
+
+LEAST_BLOCK, MOST_BLOCK = 33, 1100  # octets with their head
+LEAST_BLOCKS = 8
+LEAST_HEAD = 2  # octets that each head has alike
+IDLE_OCTETS = 2  # the most frequent ones, which sound may repeat anywhere
+
+
+def size_of_blocks(octets: bytes) -> Optional[int]:
+    """The size of blocks that begin alike, as those of a container with heads between octets of
+    sound, if octets have such. What repeats itself as a whole, as tones do, has none."""
+    octets = octets[:MOST_OCTETS]
+    idle = {octet for octet, _ in Counter(octets).most_common(IDLE_OCTETS)}
+    for size in range(LEAST_BLOCK, min(MOST_BLOCK, len(octets) // LEAST_BLOCKS) + 1):
+        pairs = zip(octets[:size], octets[size : 2 * size])
+        alike = [at for at, (one, other) in enumerate(pairs) if one == other and one not in idle]
+        heads = [at for at in alike if len(set(octets[at::size])) == 1]
+        if LEAST_HEAD <= len(heads) <= size // 4:
+            return size
+    return None

@@ -1,19 +1,22 @@
 """Recordings as they are read: files, standard input, and files that gzip packed, whose names end
 with .gz."""
 
+import gzip
+import mmap
+import os
 import shlex
+import tempfile
 import zlib
 from pathlib import Path
-from typing import Iterable, Iterator
+from typing import IO, BinaryIO, Iterable, Iterator, Union
 
-from trau.command_line.files import opened
+from trau.command_line.files import STREAM, opened
 from trau.command_line.words import Refusal
 from trau.rules.slots import octets_from, octets_turned
 
 
 BLOCK_OCTETS = 1 << 20
 PACKED = ".gz"
-GZIP_WINDOW = 31  # zlib's word for its greatest window, with the head and tail of gzip
 
 
 def name_within(path: Path) -> Path:
@@ -35,34 +38,45 @@ def command_of_others(command: str, path: Path) -> str:
     return said if within == path else f"gunzip -k {quoted(path)}; {said}"
 
 
-def unpacked(path: Path, packed: Iterator[bytes], partial: bool) -> Iterator[bytes]:
-    """What gzip packed into these blocks, as far as it goes where `partial` says so."""
-    reader = zlib.decompressobj(GZIP_WINDOW)
-    try:
-        for block in packed:
-            while block:
-                if (
-                    reader.eof
-                ):  # zeros fill the file up, or a further part begins, as in packed files that were joined
-                    block = block.lstrip(b"\0")
-                    if not block:
-                        break
-                    reader = zlib.decompressobj(GZIP_WINDOW)
-                yield reader.decompress(block)
-                block = reader.unused_data
-    except zlib.error:
-        raise Refusal(
-            f"{path}: its name ends with {PACKED}, and gzip didn't pack it, or it is damaged"
-        ) from None
-    if not reader.eof and not partial:
-        raise Refusal(f"{path}: ends too early; --partial takes what is there")
+def unpacked(path: Path, file: BinaryIO, partial: bool) -> Iterator[bytes]:
+    """What gzip packed into a file, in blocks, as far as it goes where `partial` says so."""
+    with gzip.GzipFile(fileobj=file) as packed:
+        try:
+            yield from iter(lambda: packed.read1(BLOCK_OCTETS), b"")
+        except EOFError:
+            if not partial:
+                raise Refusal(f"{path}: ends too early; --partial takes what is there") from None
+        except (gzip.BadGzipFile, zlib.error):
+            raise Refusal(
+                f"{path}: its name ends with {PACKED}, and gzip didn't pack it, or it is damaged"
+            ) from None
 
 
 def blocks_of(path: Path, partial: bool = False) -> Iterator[bytes]:
     """The octets of a recording, in blocks."""
     with opened(path) as file:
-        blocks = iter(lambda: file.read(BLOCK_OCTETS), b"")
-        yield from unpacked(path, blocks, partial) if path.suffix == PACKED else blocks
+        if path.suffix == PACKED:
+            yield from unpacked(path, file, partial)
+        else:
+            yield from iter(lambda: file.read(BLOCK_OCTETS), b"")
+
+
+def mapped(path: Path, partial: bool = False) -> Union[bytes, mmap.mmap]:
+    """The octets of a recording, which may be longer than the memory. What comes from a pipe, or
+    was packed, is put into a file that has no name."""
+    with opened(path) as file:
+        if path.suffix != PACKED and path != STREAM and path.is_file():
+            return map_of(file)
+    with tempfile.TemporaryFile() as whole:
+        whole.writelines(blocks_of(path, partial))
+        whole.flush()
+        return map_of(whole)
+
+
+def map_of(file: IO[bytes]) -> Union[bytes, mmap.mmap]:
+    """The octets of a file, mapped."""
+    size = file.seek(0, os.SEEK_END)
+    return mmap.mmap(file.fileno(), size, access=mmap.ACCESS_READ) if size else b""
 
 
 def read_recording(path: Path, partial: bool = False) -> bytes:

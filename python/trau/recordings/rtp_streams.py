@@ -2,9 +2,11 @@
 didn't. A unit is a frame of GSM, or a sample of A-law or mu-law. A stream may begin anew with other
 numbers and stamps; the times of the capture then say how it goes on."""
 
+import heapq
+import itertools
 from dataclasses import dataclass
 from pathlib import Path
-from typing import Any, Dict, Iterator, List, NamedTuple, Optional, Sequence, Tuple, Union
+from typing import Any, Iterable, Iterator, List, NamedTuple, Optional, Sequence, Set, Tuple, Union
 
 from trau.command_line.words import Refusal
 from trau.recordings import rtp_packets
@@ -16,6 +18,7 @@ from trau.rules.profile import PCM_OCTETS, SAMPLES_A_SECOND
 # Time stamps count samples, each of them an octet of a Pcm line.
 SEQUENCES, STAMPS = 1 << 16, 1 << 32
 LONGEST_GAP = 3600 * SAMPLES_A_SECOND
+MOST_GAPS = 24 * LONGEST_GAP  # of a line
 # A time stamp that jumps by more, and by more than the capture's times do, is of a sender that
 # began anew.
 MOST_JUMP = 5 * SAMPLES_A_SECOND
@@ -69,20 +72,6 @@ def has_jumped(before: Packet, packet: Packet) -> bool:
     )
 
 
-def runs_of(packets: Sequence[Packet], kind: int) -> List[List[Packet]]:
-    """The packets of a stream, as they were captured, from each start of the sender to the next.
-    Only those with speech tell."""
-    runs: List[List[Packet]] = [[]]
-    before: Optional[Packet] = None
-    for packet in packets:
-        if packet.kind == kind:
-            if before and has_jumped(before, packet):
-                runs.append([])
-            before = packet
-        runs[-1].append(packet)
-    return runs
-
-
 def refuse_restart(name: Path, before: Packet, packet: Packet) -> None:
     """Refuses a stream whose sender began anew."""
     jump = (near(packet.stamp, before.stamp, STAMPS) - before.stamp) / SAMPLES_A_SECOND
@@ -92,27 +81,80 @@ def refuse_restart(name: Path, before: Packet, packet: Packet) -> None:
     )
 
 
+def by_runs(
+    name: Path, packets: Iterable[Packet], kind: int, restart: bool, counts: Counts
+) -> Iterator[Iterator[Packet]]:
+    """The packets of a stream, as they were captured, from each start of the sender to the next.
+    Only those with speech tell."""
+
+    def numbered() -> Iterator[Tuple[int, Packet]]:
+        before: Optional[Packet] = None
+        for packet in packets:
+            if packet.kind == kind:
+                if before and has_jumped(before, packet):
+                    if not restart:
+                        refuse_restart(name, before, packet)
+                    counts.restarts += 1
+                before = packet
+            yield counts.restarts, packet
+
+    for _, run in itertools.groupby(numbered(), lambda each: each[0]):
+        yield (packet for _, packet in run)
+
+
 # A run of packets in the order of its time stamps
 
+MOST_WAITING = 2048  # packets that may come before one with a lower number: 40 s
 
-def in_order(packets: Sequence[Packet], counts: Counts) -> List[Packet]:
-    """The packets in the order of their numbers, which go on counting where they wrap around; each
-    number once."""
-    found: Dict[int, Packet] = {}
-    newest = packets[0].sequence
-    stamp = packets[0].stamp
+
+class WaitingPackets:
+    """Puts packets in the order of their numbers, which go on counting where they wrap around; each
+    number once. A packet waits until so many later ones are there."""
+
+    def __init__(self, counts: Counts) -> None:
+        self.counts = counts
+        self.waiting: List[Tuple[int, Packet]] = []
+        self.known: Set[int] = set()  # numbers that came, as far back as any may wait
+        self.newest: Optional[int] = None
+        self.stamp = 0
+        self.given: Optional[int] = None  # the number that was given last
+
+    def take(self, packet: Packet) -> None:
+        """One more packet, as it was captured."""
+        if self.newest is None:
+            self.newest, self.stamp = packet.sequence, packet.stamp
+        sequence = near(packet.sequence, self.newest, SEQUENCES)
+        self.stamp = near(packet.stamp, self.stamp, STAMPS)
+        self.counts.packets += 1
+        if sequence in self.known:
+            self.counts.doubled += 1
+            return
+        self.counts.late += sequence < self.newest
+        self.newest = max(self.newest, sequence)
+        self.known.add(sequence)
+        if self.given is not None and sequence < self.given:
+            self.counts.over += 1
+            return
+        found = packet._replace(sequence=sequence, stamp=self.stamp)
+        heapq.heappush(self.waiting, (sequence, found))
+
+    def next(self) -> Packet:
+        """The waiting packet with the lowest number."""
+        self.given, packet = heapq.heappop(self.waiting)
+        if len(self.known) > 4 * MOST_WAITING:
+            self.known = {number for number in self.known if number > self.given - MOST_WAITING}
+        return packet
+
+
+def in_order(packets: Iterable[Packet], counts: Counts) -> Iterator[Packet]:
+    """The packets in the order of their numbers, each number once."""
+    waiting = WaitingPackets(counts)
     for packet in packets:
-        sequence, stamp = near(packet.sequence, newest, SEQUENCES), near(
-            packet.stamp, stamp, STAMPS
-        )
-        counts.packets += 1
-        if sequence in found:
-            counts.doubled += 1
-            continue
-        counts.late += sequence < newest
-        newest = max(newest, sequence)
-        found[sequence] = packet._replace(sequence=sequence, stamp=stamp)
-    return [found[sequence] for sequence in sorted(found)]
+        waiting.take(packet)
+        if len(waiting.waiting) > MOST_WAITING:
+            yield waiting.next()
+    while waiting.waiting:
+        yield waiting.next()
 
 
 def frames_of(payload: bytes) -> Optional[List[bytes]]:
@@ -136,33 +178,55 @@ def units_of(packet: Packet, kind: int) -> List[Any]:
 
 
 def without_wrong(
-    name: Path, packets: Sequence[Packet], partial: bool, counts: Counts
-) -> List[Packet]:
+    name: Path, packets: Iterable[Packet], partial: bool, counts: Counts
+) -> Iterator[Packet]:
     """The packets whose payload is of their type. Another one is refused or, where `partial` says
-    so, left out, so that it is missing."""
-    wrong = [
-        packet for packet in packets if packet.kind == GSM and frames_of(packet.payload) is None
-    ]
-    others = sum(packet.kind == GSM for packet in packets) - len(wrong)
-    if wrong and not (partial and others):
-        said = rtp_packets.payload_said(wrong[0].payload)
-        more = "; --partial counts such packets as lost" if others else ""
-        raise Refusal(
-            f"{name}: packet {wrong[0].number} has no whole frames of GSM, but {said}{more}"
-        )
-    counts.wrong += len(wrong)
-    left_out = {packet.number for packet in wrong}
-    return [packet for packet in packets if packet.number not in left_out]
+    so and some are right, left out, so that it is missing."""
+    first: Optional[Packet] = None
+    has_right = False
+    for packet in packets:
+        if packet.kind == GSM and frames_of(packet.payload) is None:
+            counts.wrong += 1
+            first = first or packet
+            if not partial:
+                break
+        else:
+            has_right |= packet.kind == GSM
+            yield packet
+    if first and not (partial and has_right):
+        said = rtp_packets.payload_said(first.payload)
+        more = "; --partial counts such packets as lost" if has_right else ""
+        raise Refusal(f"{name}: packet {first.number} has no whole frames of GSM, but {said}{more}")
 
 
-def gap(name: Path, missing: int, units: int, size: int, packet: Packet) -> Iterator[Stretch]:
+@dataclass
+class Gaps:
+    """How long gaps may be, each and all together, in samples; and how long they were so far."""
+
+    name: Path
+    are_long: bool  # whether any length is taken
+    passed: int = 0
+
+    def take(self, samples: int, packet: Packet) -> None:
+        """One more gap, before this packet."""
+        if self.are_long:
+            return
+        self.passed += max(0, samples)
+        if samples > LONGEST_GAP:
+            raise Refusal(
+                f"{self.name}: the time stamp of packet {packet.number} is {samples / SAMPLES_A_SECOND:.0f} s after the packet before;"
+                f" at most {LONGEST_GAP // SAMPLES_A_SECOND} s are taken; --long-gaps takes any"
+            )
+        if self.passed > MOST_GAPS:
+            raise Refusal(
+                f"{self.name}: up to packet {packet.number} the time stamps leave out {self.passed / SAMPLES_A_SECOND:.0f} s,"
+                f" and at most {MOST_GAPS // SAMPLES_A_SECOND} s are taken; --long-gaps takes any"
+            )
+
+
+def gap(missing: int, units: int) -> Iterator[Stretch]:
     """The stretches between two packets: first what the missing packets held, if they were like the
     one before."""
-    if units * size > LONGEST_GAP:
-        raise Refusal(
-            f"{name}: the time stamp of packet {packet.number} is {units * size / SAMPLES_A_SECOND:.0f} s after the packet before;"
-            f" at most {LONGEST_GAP // SAMPLES_A_SECOND} s are taken"
-        )
     lost = max(0, min(units, missing))
     if lost:
         yield LostUnits(lost)
@@ -174,8 +238,8 @@ class Stretches:
     """The stretches of runs of packets, one after the other. Units that overlap with those before
     are left out."""
 
-    def __init__(self, name: Path, kind: int, counts: Counts) -> None:
-        self.name, self.kind, self.counts = name, kind, counts
+    def __init__(self, gaps: Gaps, kind: int, counts: Counts) -> None:
+        self.gaps, self.kind, self.counts = gaps, kind, counts
         self.size = PCM_OCTETS if kind == GSM else 1
         self.place = 0  # after all units so far
         self.last: Optional[
@@ -190,11 +254,11 @@ class Stretches:
         place, time = self.last
         return max(self.place, place + round((packet.time - time) * SAMPLES_A_SECOND / self.size))
 
-    def of_run(self, packets: Sequence[Packet]) -> Iterator[Stretch]:
+    def of_run(self, packets: Iterable[Packet]) -> Iterator[Stretch]:
         """The stretches of a run, from its first packet with speech on."""
         start, first = 0, None
         length, missing, following = 0, 0, 0
-        begins: List[Tuple[float, int]] = []
+        latest: Optional[Tuple[float, int]] = None
         for packet in in_order(packets, self.counts):
             units = units_of(packet, self.kind)
             missing += packet.sequence - following
@@ -205,28 +269,29 @@ class Stretches:
             if first is None:
                 start, first, missing = self.start_of(packet), packet.stamp, 0
             begin = start + round((packet.stamp - first) / self.size)
-            yield from gap(self.name, missing * length, begin - self.place, self.size, packet)
+            self.gaps.take((begin - self.place) * self.size, packet)
+            yield from gap(missing * length, begin - self.place)
             over = min(len(units), max(0, self.place - begin))
             self.counts.over += over
             if over < len(units):
                 yield units[over:]
             self.place, length, missing = max(self.place, begin + len(units)), len(units), 0
-            begins.append((packet.time, begin))
-        if begins:
-            time, begin = max(begins)
+            latest = max(latest or (packet.time, begin), (packet.time, begin))
+        if latest:
+            time, begin = latest
             self.last = (begin, time)
 
 
 def stretches(
-    name: Path, streams: Sequence[Sequence[Packet]], kind: int, restart: bool, counts: Counts
+    name: Path,
+    streams: Iterable[Iterable[Packet]],
+    kind: int,
+    restart: bool,
+    counts: Counts,
+    gaps_are_long: bool = False,
 ) -> Iterator[Stretch]:
     """What streams carried, one after the other, from the first packet with speech on."""
-    found = Stretches(name, kind, counts)
+    found = Stretches(Gaps(name, gaps_are_long), kind, counts)
     for packets in streams:
-        runs = runs_of(packets, kind)
-        if len(runs) > 1 and not restart:
-            before = [packet for packet in runs[0] if packet.kind == kind][-1]
-            refuse_restart(name, before, runs[1][0])
-        counts.restarts += len(runs) - 1
-        for run in runs:
+        for run in by_runs(name, packets, kind, restart, counts):
             yield from found.of_run(run)

@@ -20,13 +20,8 @@ def read_slot(words: argparse.Namespace) -> bytes:
     blocks = recordings.blocks_of(words.given, words.partial)
     first = next(blocks, b"")
     has_size = words.given.is_file() and words.given.suffix != recordings.PACKED
-    file_kinds.refuse_other(
-        words.given,
-        first,
-        "no recording of a line",
-        tests=file_kinds.TESTS_OF_HEADS,
-        size=words.given.stat().st_size if has_size else 0,
-    )
+    size = words.given.stat().st_size if has_size else 0
+    file_kinds.refuse_head(words.given, first, "no recording of a line", size)
     octets = recordings.aligned(itertools.chain([first], blocks), words.lsb_first, words.skip_bits)
     return recordings.slot_of(octets, words.slot, words.of, words.skip)
 

@@ -15,7 +15,8 @@ from trau.command_line.words import (
 )
 from trau.recordings import file_kinds, recordings, wav_files
 from trau.recordings.commands import LAW, Content, FileCommand, MadeFile, lsb_first, partial, trust
-from trau.recordings.file_kinds import FileKind
+from trau.recordings.excerpts import excerpts_of
+from trau.recordings.file_descriptions import FileKind
 from trau.recordings.wav_files import LAWS_BY_TAG, WAV_ALAW, WAV_LINEAR, WAV_MULAW
 from trau.rules.g711 import Law
 from trau.rules.profile import PCM_OCTETS
@@ -36,7 +37,7 @@ def check_law(
     if recordings.name_within(name).suffix in (".up", ".down"):
         raise Refusal(f"{name}: is a line of frames by its name, and {not_this}{of_frames}")
     file_kinds.refuse_other(name, octets, not_this, FileKind.LAW)
-    other = file_kinds.other_than_law(octets, words.law)
+    other = file_kinds.other_than_law(excerpts_of(octets), words.law)
     if other and other.kind is FileKind.LAW and not other.turned:
         law = "" if words.law is Law.MU else f" --law {Law.MU}"
         other = other._replace(command=command + law)

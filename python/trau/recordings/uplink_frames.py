@@ -1,11 +1,12 @@
 """The frames of an uplink that is made of full rate frames, as a base station sends them: what
 came, unusable frames for what didn't, and idle frames."""
 
-from typing import Iterable, List, Optional
+from typing import Iterable, Optional
 
 from trau.recordings.code_word import Marker
+from trau.recordings.speech_frames import is_plain_speech, uplink_of_speech
 from trau.rules.frame import FrameKind, UpFrame, frame_of, octets_of, write_up
-from trau.rules.parameters import SILENCE, bits_of_parameters
+from trau.rules.parameters import SILENCE, bits_of_parameters, data_of_gsm
 from trau.rules.profile import TAF_PERIODS, UP_IDLE
 
 
@@ -25,7 +26,7 @@ class UplinkFrames:
 
     def __init__(self, marker: Marker) -> None:
         self.marker = marker
-        self.frames: List[bytes] = []
+        self.frames = bytearray()
         self.since: Optional[int] = None  # frames since the last descriptor of a pause
 
     def pauses(self) -> bool:
@@ -48,13 +49,13 @@ class UplinkFrames:
         self.go_on()
         taf = not is_speech and self.is_due()
         self.since = None if is_speech else 0
-        self.frames.append(octets_of(frame_of(self.marker.control(kind, taf), data)))
+        self.frames += octets_of(frame_of(self.marker.control(kind, taf), data))
 
     def lose(self, count: int = 1) -> None:
         """Frames that didn't come."""
         for _ in range(count):
             self.go_on()
-            self.frames.append(LOST_WITH_TAF if self.is_due() else LOST)
+            self.frames += LOST_WITH_TAF if self.is_due() else LOST
 
     def take_all(self, frames: Iterable[Optional[str]]) -> None:
         """Frames that came, D1 to D260 each, and None for each that didn't."""
@@ -64,11 +65,29 @@ class UplinkFrames:
             else:
                 self.take(data)
 
+    def take_gsm(self, frames: Iterable[bytes]) -> None:
+        """Frames that came, of 33 octets, and empty ones for those that didn't."""
+        for frame in frames:
+            if not frame:
+                self.lose()
+            elif self.marker.keeps or is_plain_speech(frame):
+                self.marker.counts[FrameKind.SPEECH] += 1
+                self.since = None
+                self.frames += uplink_of_speech(frame, self.marker.dtxd)
+            else:
+                self.take(data_of_gsm(frame))
+
     def idle(self, count: int) -> None:
         """Idle frames."""
         self.since = None
-        self.frames.append(count * IDLE)
+        self.frames += count * IDLE
 
     def line(self) -> bytes:
         """The frames, one after the other."""
-        return b"".join(self.frames)
+        return bytes(self.frames)
+
+    def drained(self) -> bytes:
+        """The frames that weren't taken yet; the line goes on with none."""
+        frames = bytes(self.frames)
+        self.frames.clear()
+        return frames

@@ -16,6 +16,7 @@ LAWS_BY_TAG = {WAV_ALAW: Law.A, WAV_MULAW: Law.MU}
 SAMPLE_KINDS = ((WAV_LINEAR, 16), (WAV_ALAW, 8), (WAV_MULAW, 8))
 # A program that writes WAV to a pipe can't know the size and puts a great number there.
 WAV_LEAST_UNKNOWN_SIZE = 0x7FFF0000
+MOST_DATA = (1 << 32) - (1 << 10)  # octets: the file has its size in 32 bits
 
 
 class Wav(NamedTuple):
@@ -73,7 +74,7 @@ def octets_of_wav(name: Path, content: bytes, law: Law, partial: bool = False) -
         raise Refusal(
             f"{name}: has {wav.samples_a_second} Hz, channels {wav.channels}, bits {wav.sample_bits}, format {wav.tag}; needed"
             f" is {SAMPLES_A_SECOND} Hz mono of 16 bits linear, A-law or mu-law; sox makes it:"
-            f" {command_of_others('sox {} -r 8000 -c 1 -b 16 -e signed-integer NEW.wav', name)}"
+            f" {command_of_others('sox -D {} -r 8000 -c 1 -b 16 -e signed-integer NEW.wav', name)}"
         )
     if wav.tag in LAWS_BY_TAG:
         return wav.data.translate(LAWS_BY_TAG[wav.tag].table_to(law))
@@ -86,13 +87,18 @@ def octets_of_wav(name: Path, content: bytes, law: Law, partial: bool = False) -
     return bytes(map(octets_by_sample(law).__getitem__, samples))
 
 
-def wav_of(tag: int, sample_bits: int, data: bytes) -> bytes:
-    """A WAV file of one channel."""
-    sample_octets = sample_bits // 8
+def wav_of(tag: int, sample_bits: int, data: bytes, channels: int = 1) -> bytes:
+    """A WAV file of one channel, or of several whose samples come in turn."""
+    if len(data) > MOST_DATA:
+        raise Refusal(
+            f"{len(data)} octets of samples: a WAV file has at most {MOST_DATA}; octets of a law take"
+            " half as many, and a line can be cut into parts"
+        )
+    sample_octets = channels * sample_bits // 8
     form = struct.pack(
         "<HHIIHH",
         tag,
-        1,
+        channels,
         SAMPLES_A_SECOND,
         SAMPLES_A_SECOND * sample_octets,
         sample_octets,
@@ -112,9 +118,14 @@ def wav_of(tag: int, sample_bits: int, data: bytes) -> bytes:
     return struct.pack("<4sI", b"RIFF", len(body)) + body
 
 
-def wav_of_law(octets: bytes, law: Law) -> bytes:
-    """A WAV file of 16 bits linear, of octets of a law."""
-    samples = array("h", expand_all(law, octets))
+def wav_of_samples(samples: "array[int]", channels: int = 1) -> bytes:
+    """A WAV file of 16 bits linear."""
     if sys.byteorder == "big":
+        samples = samples[:]
         samples.byteswap()
-    return wav_of(WAV_LINEAR, 16, samples.tobytes())
+    return wav_of(WAV_LINEAR, 16, samples.tobytes(), channels)
+
+
+def wav_of_law(octets: bytes, law: Law) -> bytes:
+    """The same of octets of a law."""
+    return wav_of_samples(array("h", expand_all(law, octets)))

@@ -10,8 +10,15 @@ MOST_SLOTS = 256
 
 # Each octet with its bits in the other order.
 TURNED = bytes(int(f"{octet:08b}"[::-1], 2) for octet in range(256))
-# The four pairs of bits of each octet, the first bits first.
-PAIRS = [bytes(octet >> 6 - 2 * number & 3 for octet in range(256)) for number in range(CHANNELS)]
+# Tables that take one of the four pairs of bits of an octet to a place among four, the first bits
+# first.
+PAIR_TO = [
+    [
+        bytes((octet >> 6 - 2 * pair & 3) << 6 - 2 * place for octet in range(256))
+        for place in range(4)
+    ]
+    for pair in range(4)
+]
 
 
 def octets_turned(octets: bytes) -> bytes:
@@ -30,16 +37,20 @@ def octets_from(octets: bytes, bit: int) -> bytes:
     )
 
 
-def octets_of_pairs(columns: Sequence[bytes]) -> bytes:
-    """The octets that four columns of pairs of bits make, those of the first column first."""
-    return bytes([a << 6 | b << 4 | c << 2 | d for a, b, c, d in zip(*columns)])
+def joined(parts: Sequence[bytes]) -> bytes:
+    """The bits that are 1 in any of some octets of equal length."""
+    whole = 0
+    for part in parts:
+        whole |= int.from_bytes(part, "big")
+    return whole.to_bytes(len(parts[0]), "big")
 
 
 def channel_octets(slot: bytes, number: int) -> bytes:
     """The octets of a channel of a slot; four octets of the slot carry one, its first bits
     first."""
-    pairs = slot[: len(slot) // 4 * 4].translate(PAIRS[number])
-    return octets_of_pairs([pairs[place::4] for place in range(4)])
+    whole = slot[: len(slot) // CHANNELS * CHANNELS]
+    columns = (whole[place::CHANNELS] for place in range(CHANNELS))
+    return joined([column.translate(PAIR_TO[number][at]) for at, column in enumerate(columns)])
 
 
 def split(slot: bytes) -> List[bytes]:
@@ -50,5 +61,8 @@ def split(slot: bytes) -> List[bytes]:
 def merge(channels: Sequence[bytes]) -> bytes:
     """The slot that carries four channels of equal length: four of its octets for each octet of a
     channel."""
-    columns = [octets_of_pairs([octets.translate(pairs) for octets in channels]) for pairs in PAIRS]
-    return bytes([octet for group in zip(*columns) for octet in group])
+    slot = bytearray(CHANNELS * len(channels[0]))
+    for place, tables in enumerate(PAIR_TO):
+        parts = [octets.translate(tables[at]) for at, octets in enumerate(channels)]
+        slot[place::CHANNELS] = joined(parts)
+    return bytes(slot)

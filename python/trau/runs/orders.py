@@ -22,7 +22,7 @@ from trau.command_line.files import STREAM, read_file, write_file
 from trau.command_line.word_faults import fault_of_number, faults_of_spaces, grouped, shown
 from trau.command_line.words import Option, Refusal, Words, as_started, option, switch
 from trau.recordings import file_kinds
-from trau.recordings.file_kinds import FileDescription, FileKind
+from trau.recordings.file_descriptions import FileDescription, FileKind
 from trau.rules.board import Board, OrderRefusal
 from trau.rules.g711 import Law
 from trau.rules.lines import INCOMING, name_of, whole_periods
@@ -177,8 +177,8 @@ LOOKED_AT = 4000  # octets of a line, so that a farm of thousands of calls is lo
 
 def other_kind(name: Path, side: str, order: Order) -> Optional[FileDescription]:
     """What a line plainly is instead of an uplink, or of sound of the call's law."""
-    head, size = file_kinds.head_of(name, LOOKED_AT)
-    found = file_kinds.known_kind(head, size)
+    head = file_kinds.head_of(name, LOOKED_AT)
+    found = file_kinds.known_kind(head)
     if side == "pcm" and not found:
         return file_kinds.other_than_law(head, order.law())
     if not found or found.kind is FileKind.EMPTY:

@@ -1,0 +1,280 @@
+"""`lines.py unpack`: the folders of made E1 recordings and of joined captures hold what the single
+commands give, and a run takes them."""
+
+import csv
+import hashlib
+import os
+import random
+import struct
+import subprocess
+import unittest
+
+import e1_lines
+from capture_files import HAS_DPKT
+from support import DATA, EXAMPLES, InFolder
+
+from trau.recordings import lines
+from trau.recordings.capture_walk import packets
+from trau.recordings.scan_rows import ScanRow
+from trau.recordings.unpacked_folder import UnpackedCall, UnpackedLine, number_calls
+from trau.runs import report
+from trau.runs.recording_times import RecordingClock
+
+PERIODS = 500
+PROGRAM = os.environ.get("TRAU_PROGRAM")
+SEED = 8
+GSM_CAPTURES = ("gsm.pcap", "osmo.pcap", "sources.pcap")
+ALL_CAPTURES = (*GSM_CAPTURES, "ffmpeg.pcap", "pcma.pcapng", "pcmu.pcap", "gstreamer.pcap")
+
+
+def joined_captures(names):
+    """Captures as one, as mergecap does it: each packet at its time, in pcap of nanoseconds."""
+    found = sorted(
+        (each for name in names for each in packets((DATA / name).read_bytes())),
+        key=lambda each: each.time,
+    )
+    head = struct.pack("<IHHiIII", 0xA1B23C4D, 2, 4, 0, 0, 65535, found[0].link)
+    parts = [head]
+    for each in found:
+        seconds, part = divmod(round(each.time * 10**9), 10**9)
+        parts.append(struct.pack("<IIII", seconds, part, len(each.octets), each.sent))
+        parts.append(each.octets)
+    return b"".join(parts)
+
+
+class Unpacks(InFolder):
+    """A test of the command in a folder of its own."""
+
+    def unpack(self, name, *words):
+        """The folder that the command makes of a recording, what it says, and the rows of its
+        table."""
+        folder = self.folder / "calls"
+        status, out, err = self.run_tool(lines.main, "unpack", name, folder, *words)
+        self.assertEqual((status, err), (0, ""))
+        with open(folder / "calls.csv", newline="") as file:
+            rows = list(csv.DictReader(file))
+        for row in rows:
+            octets = (folder / f"{row['call']}.{row['line']}").read_bytes()
+            self.assertEqual(row["sha256"], hashlib.sha256(octets).hexdigest())
+            self.assertEqual(row["recording_sha256"], hashlib.sha256(name.read_bytes()).hexdigest())
+        return folder, out, rows
+
+    def run_calls(self, folder):
+        """The report of a run in the folder, by the program; without one the orders alone are
+        checked."""
+        orders = folder / "orders.txt"
+        if not PROGRAM:
+            self.skipTest("TRAU_PROGRAM names no program")
+        with open(orders, "rb") as given:
+            run = subprocess.run([PROGRAM, "run"], cwd=folder, stdin=given, capture_output=True)
+        self.assertEqual((run.returncode, run.stderr), (0, b""))
+        (folder / "report.txt").write_bytes(run.stdout)
+        return run.stdout.decode()
+
+
+class OfLines(Unpacks):
+    """E1 lines."""
+
+    def made(self):
+        """A line with two calls in a channel, others beside them, a downlink, and sound of both
+        laws."""
+        down = (EXAMPLES / "farm" / "wanted" / "2.down").read_bytes()
+        voice = (EXAMPLES / "farm" / "1.pcm").read_bytes()
+        first = {
+            0: e1_lines.channel(
+                PERIODS, (10, e1_lines.uplink(150)), (300, e1_lines.uplink(100, 50)), bits=3
+            ),
+            3: e1_lines.channel(PERIODS, (5, e1_lines.uplink(400, 7))),
+        }
+        slots = {
+            1: e1_lines.slot(PERIODS, first),
+            2: e1_lines.slot(PERIODS, {1: e1_lines.channel(PERIODS, (20, down))}),
+            31: b"\xd5" * 20_000 + voice + b"\xd5" * 80_000,
+        }
+        return e1_lines.line(PERIODS, slots)
+
+    def test_as_the_single_commands(self):
+        name = self.path("line.e1", self.made())
+        folder, out, rows = self.unpack(name)
+        self.assertEqual(out, "unpack calls 5 up 3 pcm 1 down 1 pairs 0 left 0\n")
+        for row in rows:
+            new = self.folder / f"one.{row['line']}"
+            words = ["--slot", row["slot"], "--of", "32"]
+            words += ["--channel", row["channel"]] if row["channel"] else []
+            self.assertEqual(self.run_tool(lines.main, "slot", name, new, *words)[0], 0)
+            size = 160 if row["line"] == "pcm" else 40
+            start, count = size * int(row["period"]), size * int(row["periods"])
+            unpacked = (folder / f"{row['call']}.{row['line']}").read_bytes()
+            self.assertEqual(len(unpacked), count)
+            self.assertEqual(unpacked, new.read_bytes()[start : start + count])
+            self.assertEqual(int(row["offset"]), 160 * int(row["period"]))
+
+    def test_a_run(self):
+        name = self.path("line.e1", self.made())
+        folder, _, rows = self.unpack(name, "--begins", "2026-05-04T13:00:00.500")
+        report_text = self.run_calls(folder)
+        for row in rows:
+            if row["line"] == "up":
+                self.assertIn(f"counts {row['call']} good {row['frames']} ", report_text)
+        self.assertEqual((folder / "clock.txt").read_text(), "0 at 2026-05-04T13:00:00.500+00:00\n")
+        status, out, err = self.run_tool(report.main, "calls", folder, "--csv")
+        self.assertEqual((status, err), (0, ""))
+        last = next(row for row in csv.DictReader(out.splitlines()) if row["periods"] == "101")
+        self.assertEqual(last["utc"], "2026-05-04T13:00:06.500+00:00")
+        self.assertEqual(RecordingClock(folder).said(50), "2026-05-04T13:00:01.500+00:00")
+
+    def test_any_alignment(self):
+        line = self.made()
+        wanted = None
+        for bits, is_turned in ((0, False), (512, True), (165 + 512, True)):
+            name = self.path("line.e1", e1_lines.recorded(line, bits, is_turned))
+            _, _, rows = self.unpack(name)
+            found = [(row["slot"], row["channel"], row["frames"]) for row in rows]
+            wanted = wanted or sorted(found)
+            self.assertEqual(sorted(found), wanted)
+            self.clear()
+
+    def clear(self):
+        """Removes what was unpacked."""
+        for path in (self.folder / "calls").iterdir():
+            path.unlink()
+
+    def test_octets_lost(self):
+        line = self.made()
+        name = self.path("line.e1", line[:1_000_000] + line[1_000_033:])
+        folder, _, rows = self.unpack(name)
+        report_text = self.run_calls(folder)
+        counts = [each for each in report_text.splitlines() if each.startswith("counts ")]
+        good = {each.split()[1]: int(each.split()[3]) for each in counts}
+        row = next(row for row in rows if row["channel"] == "3")
+        self.assertGreater(good[row["call"]], 390)
+
+    def test_refused(self):
+        name = self.path("line.e1", self.made())
+        taken = self.folder / "taken"
+        taken.mkdir()
+        (taken / "file").write_bytes(b"")
+        self.assert_refused(lines.main, ["unpack", name, taken], "has files")
+        self.assert_refused(lines.main, ["unpack", name, name], "isn't a folder")
+        noise = self.path("noise", random.Random(SEED).randbytes(90_000))
+        self.assert_refused(lines.main, ["unpack", noise, self.folder / "new"], "no E1 line")
+        self.assertEqual(
+            {path.name for path in self.folder.iterdir()}, {"line.e1", "taken", "noise"}
+        )
+
+
+@unittest.skipUnless(HAS_DPKT, "pcap needs the library dpkt")
+class OfCaptures(Unpacks):
+    """Captures of other programs, joined."""
+
+    def test_as_the_single_commands(self):
+        name = self.path("all.pcap", joined_captures(ALL_CAPTURES))
+        folder, out, rows = self.unpack_with_notes(name)
+        self.assertEqual(out, "unpack calls 8 up 5 pcm 3 down 0 pairs 0 left 0\n")
+        words = ["--type", "98=gsm", "--partial", "--restart"]
+        for row in rows:
+            law = ["--law", "mulaw"] if row["kind"] == "mulaw" else []
+            stream = self.number_of(name, row["ssrc"])
+            new = self.folder / f"one.{row['line']}"
+            status = self.run_tool(lines.main, "pcap", name, new, *words, *law, "--stream", stream)
+            self.assertEqual(status[0], 0, status)
+            unpacked = (folder / f"{row['call']}.{row['line']}").read_bytes()
+            self.assertEqual(unpacked, new.read_bytes(), row)
+        self.run_calls(folder)
+
+    def unpack_with_notes(self, name):
+        """The same of a capture of which some packets aren't read."""
+        folder = self.folder / "calls"
+        words = ("unpack", name, folder, "--type", "98=gsm")
+        status, out, err = self.run_tool(lines.main, *words)
+        self.assertEqual((status, err), (0, f"{name}: not read: 2 not RTP\n"))
+        with open(folder / "calls.csv", newline="") as file:
+            return folder, out, list(csv.DictReader(file))
+
+    def number_of(self, name, ssrc):
+        """The number that `pcap` gives a stream."""
+        words = ("pcap", name, self.folder / "none", "--type", "98=gsm", "--partial")
+        listed = self.run_tool(lines.main, *words)[2].split("; ")
+        said = next(each for each in listed if ssrc in each)
+        return said.split(": ")[-1].split(" ")[0]
+
+    def test_orders_and_clock(self):
+        name = self.path("gsm.pcap", joined_captures(("sources.pcap",)))
+        folder, _, rows = self.unpack(name)
+        orders = (folder / "orders.txt").read_text()
+        self.assertEqual(orders, "0 open 1\n32 open 2\n")
+        self.assertEqual((folder / "clock.txt").read_text()[:5], "0 at ")
+        self.assertEqual(rows[1]["utc"], RecordingClock(folder).said(32)[:20] + rows[1]["utc"][20:])
+
+    def test_truncated(self):
+        name = self.path("cut.pcap", (DATA / "gsm.pcap").read_bytes()[:2000])
+        words = ["unpack", name, self.folder / "calls"]
+        self.assert_refused(lines.main, words, "ends within packet")
+        self.assertEqual(self.run_tool(lines.main, *words, "--partial")[0], 0)
+
+
+class BothWays(Unpacks):
+    """Streams that go both ways between the same addresses and ports."""
+
+    def capture(self, flows):
+        """A capture of streams (from, to, payload type, first period, packets), at 10.0.0.N."""
+        found = []
+        for ssrc, (source, target, kind, first, count) in enumerate(flows):
+            for at in range(count):
+                body = b"\xd0" + bytes(32) if kind == 3 else b"\x35" * 160
+                rtp = struct.pack(">BBHII", 0x80, kind, at, 160 * at, ssrc) + body
+                udp = struct.pack(">HHHH", 5004, 5004, 8 + len(rtp), 0) + rtp
+                ends = bytes([10, 0, 0, source, 10, 0, 0, target])
+                ip = struct.pack(">BBHHHBBH", 0x45, 0, 20 + len(udp), 0, 0, 64, 17, 0) + ends + udp
+                found.append((20_000 * (first + at), ip))
+        head = struct.pack("<IHHiIII", 0xA1B2C3D4, 2, 4, 0, 0, 65535, 101)
+        parts = [
+            struct.pack("<IIII", time // 10**6, time % 10**6, len(ip), len(ip)) + ip
+            for time, ip in sorted(found, key=lambda each: each[0])
+        ]
+        return head + b"".join(parts)
+
+    def test_an_uplink_and_a_pcm_line_are_one_call(self):
+        capture = self.capture([(1, 2, 3, 0, 50), (2, 1, 8, 10, 60)])
+        folder, out, rows = self.unpack(self.path("two.pcap", capture))
+        self.assertEqual(out, "unpack calls 1 up 1 pcm 1 down 0 pairs 1 left 0\n")
+        self.assertEqual([(row["call"], row["line"]) for row in rows], [("1", "up"), ("1", "pcm")])
+        pcm = (folder / "1.pcm").read_bytes()
+        self.assertEqual(pcm, b"\xd5" * 1600 + b"\x35" * 9600)
+        self.assertEqual((folder / "1.up").stat().st_size, 40 * 70)
+
+    def test_two_of_a_kind_are_two_calls(self):
+        capture = self.capture([(1, 2, 8, 0, 50), (2, 1, 8, 0, 50), (3, 4, 8, 0, 50)])
+        _, out, rows = self.unpack(self.path("three.pcap", capture))
+        self.assertEqual(out, "unpack calls 3 up 0 pcm 3 down 0 pairs 2 left 0\n")
+        self.assertEqual([row["pair"] for row in rows], ["2", "1", ""])
+
+    def test_several_at_a_time_are_not_sure(self):
+        capture = self.capture([(1, 2, 3, 0, 50), (2, 1, 8, 0, 50), (2, 1, 8, 0, 50)])
+        _, _, rows = self.unpack(self.path("three.pcap", capture))
+        self.assertEqual([row["paired_by"] for row in rows], ["", "", ""])
+
+    def test_one_after_the_other(self):
+        capture = self.capture([(1, 2, 8, 0, 50), (2, 1, 8, 0, 50), (1, 2, 8, 80, 50)])
+        _, _, rows = self.unpack(self.path("three.pcap", capture))
+        self.assertEqual([row["pair"] for row in rows], ["2", "1", ""])
+
+
+class ManyCalls(unittest.TestCase):
+    """More calls than a run takes."""
+
+    def test_several_folders(self):
+        row = ScanRow("uplink", 0.0, 1.0, 1, 0)
+        calls = [
+            UnpackedCall({"up": UnpackedLine(row, "up", 9000 - at, 50, 0)}) for at in range(9000)
+        ]
+        number_calls(calls)
+        self.assertEqual(
+            [(calls[at].folder, calls[at].number) for at in (0, 4095, 4096, 8999)],
+            [("1", 1), ("1", 4096), ("2", 1), ("3", 808)],
+        )
+        self.assertLess(calls[0].period(), calls[1].period())
+
+
+if __name__ == "__main__":
+    unittest.main()
