@@ -44,8 +44,6 @@ mod held;
 #[cfg(test)]
 mod lines;
 #[cfg(test)]
-mod memory_folder_tests;
-#[cfg(test)]
 mod met;
 #[cfg(test)]
 mod paired;
