@@ -63,7 +63,7 @@ class PrecededFrame(NamedTuple):
     frame: Bits
 
 
-class Rule(NamedTuple):
+class BitOrderRule(NamedTuple):
     """A rule: its word; up to which share of contradictions a way is believed; and how much less
     that has to be than in the next."""
 
@@ -75,11 +75,11 @@ class Rule(NamedTuple):
 COUNT, NOTHING, UNDECIDED = "count", "nothing", "undecided"
 BEFORE, SPARE, TAF, LAG, RATIOS = "before", "spare", "taf", "lag", "ratios"
 RULES = (
-    Rule(BEFORE, 0.25, 0.5),
-    Rule(SPARE, 0.1, 0.1),
-    Rule(TAF, 0.15, 0.15),
-    Rule(LAG, 0.03, 0.06),
-    Rule(RATIOS, 0.85, 0.12),
+    BitOrderRule(BEFORE, 0.25, 0.5),
+    BitOrderRule(SPARE, 0.1, 0.1),
+    BitOrderRule(TAF, 0.15, 0.15),
+    BitOrderRule(LAG, 0.03, 0.06),
+    BitOrderRule(RATIOS, 0.85, 0.12),
 )
 WAYS = [BitWay(turned, bit) for turned in (False, True) for bit in (0, 1)]
 
