@@ -1,4 +1,0 @@
--- Files in memory, and that a folder of them is honest.
-pub mod Honest
-pub mod Memory
-pub mod Sizes
