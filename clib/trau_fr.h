@@ -123,7 +123,7 @@ extern "C" {
 #endif
 
 /* The version of this header and of the library that it came with. */
-#define TRAU_FR_VERSION "1.3.0"
+#define TRAU_FR_VERSION "1.2.0"
 
 /* Samples of a period; octets of a frame (RTP, files .gsm), of two frames (WAV49), and of a frame on a TRAU line. */
 #define TRAU_FR_SAMPLES 160
