@@ -27,7 +27,11 @@ def toolchain() -> ModuleType:
     if not path:
         raise Refusal("the Rattle toolchain's command rt isn't on the path")
     loader = importlib.machinery.SourceFileLoader("toolchain_rt", os.path.realpath(path))
-    made = importlib.util.module_from_spec(importlib.machinery.ModuleSpec(loader.name, loader))
+    # (It sets the file that the toolchain finds its own folder by, which a bare ModuleSpec doesn't.)
+    spec = importlib.util.spec_from_loader(loader.name, loader)
+    assert spec is not None
+    made = importlib.util.module_from_spec(spec)
+    sys.dont_write_bytecode = True  # nothing is written beside the toolchain
     loader.exec_module(made)
     return made
 
