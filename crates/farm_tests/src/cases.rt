@@ -43,7 +43,7 @@ pub(crate) struct Case {
 }
 
 // The FNV-1a sum, 32 bits.
-fn sum(octets: &[u8]) -> u32 {
+pub(crate) fn sum(octets: &[u8]) -> u32 {
     let mut sum = 2_166_136_261u32;
     for octet in octets {
         sum = (sum ^ u32::from(*octet)).wrapping_mul(16_777_619);

@@ -14,7 +14,7 @@ fn push_word(rt: &impl Abort, alloc: Global, words: &mut Vec<String>, text: &str
     words.push(word).expect(rt, "memory");
 }
 
-fn words_of(rt: &impl Abort, alloc: Global, texts: &[&str]) -> Vec<String> {
+pub(crate) fn words_of(rt: &impl Abort, alloc: Global, texts: &[&str]) -> Vec<String> {
     let mut words = Vec::new(alloc);
     for text in texts {
         push_word(rt, alloc, &mut words, text);
@@ -58,7 +58,7 @@ fn limits(desk: AtDesk) -> (u32, u32, u32) {
 }
 
 // A desk with these orders.
-fn desk_of(rt: &impl Abort, alloc: Global, orders: &str, desk: AtDesk) -> MemDesk {
+pub(crate) fn desk_of(rt: &impl Abort, alloc: Global, orders: &str, desk: AtDesk) -> MemDesk {
     let (read_fails, write_fails, room) = limits(desk);
     let orders = copied(rt, alloc, orders.as_bytes());
     let reads = numbers(rt, alloc, read_fails, 1);

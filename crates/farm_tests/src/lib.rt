@@ -1,4 +1,5 @@
-//! Tests of the top function and of the pool: operations on lines and desk that fail, runs in memory, workers that steal.
+//! Tests of the top function and of the pool: operations on lines and desk that fail, runs in memory, over lines and over files,
+//! workers that steal.
 //!
 //! They are in a crate of their own, since a crate with tests is proved a second time with them. They call public functions only.
 #![tactic(auto)]
@@ -43,6 +44,8 @@ mod farm_top_tests;
 mod held;
 #[cfg(test)]
 mod lines;
+#[cfg(test)]
+mod memory_folder_tests;
 #[cfg(test)]
 mod met;
 #[cfg(test)]

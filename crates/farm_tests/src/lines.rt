@@ -115,7 +115,13 @@ fn by_place(
 }
 
 // What is on a line.
-fn octets_of(rt: &impl Abort, alloc: Global, side: Side, call: u32, octets: Octets) -> Vec<u8> {
+pub(crate) fn octets_of(
+    rt: &impl Abort,
+    alloc: Global,
+    side: Side,
+    call: u32,
+    octets: Octets,
+) -> Vec<u8> {
     match octets {
         Octets::Usual(count) | Octets::Numbered(count) | Octets::Zeros(count) => {
             by_place(rt, alloc, side, call, octets, count)

@@ -32,7 +32,7 @@ use Rattle.trau_files.specs.Trunk.{TrunkFiles}
 use Rattle.files_top.specs.OnDisk.{run_on}
 use Rattle.files_top.specs.Promises.{TopPromise}
 use Rattle.files_top.specs.RunOnDisk.{AreRead, CommandLeavesIf, CutOnDisk, RunLeaves, RunsOnDisk}
-use Rattle.files_top.proofs.Disks.{files_stay, keeps_recordings, left_on_disk, over_lines}
+use Rattle.files_top.proofs.Disks.{are_given, files_stay, keeps_recordings, left_on_disk, over_lines}
 
 -- why no order is run
 abbrev IsUnused : ℕ → Type 0
@@ -63,6 +63,8 @@ module _ {D F : Type 0} {does : Operations D F} (honest : IsHonest does) (start 
   ended text_of orders failed text read are_read told leaves headline texts tells =
       let gave : ℕ → Side → ℕ = λ c side. (line_at t.lines (index_of_line c side)).read in
       let r : Run = run_on orders s.periods start (is_listed failed) gave in
+      let over = over_lines honest start t knows orders s.periods (is_listed failed) in
+      let lines = headline r over in
       record {
         orders = orders;
         read = read;
@@ -70,18 +72,15 @@ module _ {D F : Type 0} {does : Operations D F} (honest : IsHonest does) (start 
         failed = failed;
         told = told;
         gave = gave;
+        given = are_given honest start t knows;
         status_is = status_due failed text read desk' status tells;
-        headline = λ there.
-            let over = over_lines honest start t knows orders s.periods (is_listed failed) there in
-            let lines = headline r over in
-            record {
-              left = left_on_disk honest start t knows (is_listed failed) r (λ c. out (whole_call r c)) (λ c. octets_of (down (whole_call r c)))
-                  lines.out_line lines.down_line (leaves r over).others;
-              hands_over = lines.hands_over;
-              goes_out = lines.goes_out;
-            };
-        text = λ there. subst (λ (xs : List ℕ). TellsRun failed xs read desk' status)
-            (texts r (over_lines honest start t knows orders s.periods (is_listed failed) there)) tells;
+        headline = record {
+          left = left_on_disk honest start t knows (is_listed failed) r (λ c. out (whole_call r c)) (λ c. octets_of (down (whole_call r c)))
+              told.failures lines.out_line lines.down_line (leaves r over).others;
+          hands_over = lines.hands_over;
+          goes_out = lines.goes_out;
+        };
+        text = subst (λ (xs : List ℕ). TellsRun failed xs read desk' status) (texts r over) tells;
       }
 
   -- a run that ran out of memory
@@ -90,6 +89,8 @@ module _ {D F : Type 0} {does : Operations D F} (honest : IsHonest does) (start 
   cut orders read are_read short =
       let gave : ℕ → Side → ℕ = λ c side. (line_at t.lines (index_of_line c side)).read in
       let r : Run = run_on orders s.periods start short.fails gave in
+      let over = over_lines honest start t knows orders s.periods short.fails in
+      let stops = short.stops r over in
       record {
         orders = orders;
         read = read;
@@ -97,13 +98,12 @@ module _ {D F : Type 0} {does : Operations D F} (honest : IsHonest does) (start 
         fails = short.fails;
         told = short.told;
         gave = gave;
+        given = are_given honest start t knows;
         clock = short.clock;
         within = short.within;
-        left = λ there.
-            let over = over_lines honest start t knows orders s.periods short.fails there in
-            let stops = short.stops r over in
-            left_on_disk honest start t knows short.fails r (λ c. take (160 * worked_to r short.clock c) (out_of_call r c))
-            (λ c. take (40 * worked_to r short.clock c) (down_of_call r c)) stops.out stops.down (short.fronts r over).others;
+        stops = stops;
+        left = left_on_disk honest start t knows short.fails r (λ c. take (160 * worked_to r short.clock c) (out_of_call r c))
+            (λ c. take (40 * worked_to r short.clock c) (down_of_call r c)) short.told stops.out stops.down (short.fronts r over).others;
       }
 
   run_follows : (reading : Result (List Order) OrdersFault) (read : DeskState) → ReadsOrders desk read reading →

@@ -13,6 +13,7 @@ use Rattle.run_spec.specs.Lines.{down_of_call, out_of_call}
 use Rattle.run_spec.specs.Run.{Run, worked_to}
 use Rattle.run_calls_spec.specs.Handed.{GoesOut, HandsOver}
 use Rattle.run_calls_spec.specs.Whole.{whole_call}
+use Rattle.farm_run.specs.Fronts.{StopsAt}
 use Rattle.farm_run.specs.Runs.{AreFailures, TellsFailed, is_listed}
 use Rattle.command_words.specs.declared.asked.Settings.{Settings}
 use Rattle.farm_top.specs.Farm.{TellsRun, status_of_run}
@@ -24,7 +25,7 @@ use Rattle.trau_files.specs.Disk.{Disk, KeepsNames}
 use Rattle.trau_files.specs.Folder.{Operations}
 use Rattle.trau_files.specs.Honest.{IsHonest}
 use Rattle.trau_files.specs.Trunk.{TrunkFiles}
-use Rattle.files_top.specs.OnDisk.{AreThere, FilesStay, KeepsRecordings, LeftOnDisk, run_on}
+use Rattle.files_top.specs.OnDisk.{AreGiven, FilesStay, KeepsRecordings, LeftOnDisk, run_on}
 
 -- The headline over files: each outgoing file of each call that the run opens has exactly the octets that the definition of the call as a whole
 -- gives, if it gives any; that of a line that failed has a proper prefix. In bridges each good speech frame's 260 bits go out unchanged, in
@@ -46,18 +47,18 @@ pub record RunsOnDisk (text_of : Run → List Line → List ℕ) (s : Settings) 
   pub orders : List Order
   pub read : DeskState
   pub are_read : AreRead orders desk read
-  -- the lines that failed, by their fault counts, none with status 0 and some with 6; of those that are incoming, how many octets each gave
+  -- the lines that failed, by their fault counts, none with status 0 and some with 6; and how many octets each incoming line gave
   pub failed : List Line
   pub told : TellsFailed before after failed
   pub gave : ℕ → Side → ℕ
+  pub given : AreGiven start gave after
   pub status_is : (status ≡ status_of_run failed) ⊎ (status ≡ 4) ⊎ (status ≡ 5)
   -- the files have what the run of these orders over the files at the start gives, and its text is printed
-  pub headline : AreThere start (run_on orders s.periods start (is_listed failed) gave) →
-      HeadlineOnDisk start now (is_listed failed) (run_on orders s.periods start (is_listed failed) gave)
-  pub text : AreThere start (run_on orders s.periods start (is_listed failed) gave) →
-      TellsRun failed (text_of (run_on orders s.periods start (is_listed failed) gave) failed) read desk' status
+  pub headline : HeadlineOnDisk start now (is_listed failed) (run_on orders s.periods start (is_listed failed) gave)
+  pub text : TellsRun failed (text_of (run_on orders s.periods start (is_listed failed) gave) failed) read desk' status
 
--- A run that ran out of memory. It stopped at one period, the same for all calls: the files have what the run gives up to there.
+-- A run that ran out of memory. It stopped at one period, the same for all calls: the files have what the run gives up to there, and that much of the
+-- incoming lines was read.
 pub record CutOnDisk (s : Settings) (start now : Disk) (before after : ℕ → Side → LineState) (desk : DeskState) : Type 0 where
   pub orders : List Order
   pub read : DeskState
@@ -65,10 +66,12 @@ pub record CutOnDisk (s : Settings) (start now : Disk) (before after : ℕ → S
   pub fails : ℕ → Side → Bool
   pub told : AreFailures fails before after
   pub gave : ℕ → Side → ℕ
+  pub given : AreGiven start gave after
+  -- this period: exactly the octets of the periods before it were read, unless the call ended before because of its lines
   pub clock : ℕ
   pub within : clock ≤ s.periods
-  pub left : AreThere start (run_on orders s.periods start fails gave) →
-      LeftOnDisk start now fails (run_on orders s.periods start fails gave)
+  pub stops : StopsAt (run_on orders s.periods start fails gave) clock fails before after
+  pub left : LeftOnDisk start now fails (run_on orders s.periods start fails gave)
       (λ c. take (160 * worked_to (run_on orders s.periods start fails gave) clock c) (out_of_call (run_on orders s.periods start fails gave) c))
       (λ c. take (40 * worked_to (run_on orders s.periods start fails gave) clock c) (down_of_call (run_on orders s.periods start fails gave) c))
 

@@ -1,6 +1,9 @@
--- Two indices, two accesses, and what an option has, by cases.
+-- Two indices, two accesses, the line of an index, and what an option has, by cases.
 use Rattle.std.proofs.Common.{Result, Ok, Err, IfOk, ◌≡◌, ◌≢◌, ◌⊎◌, ℕ, zero, suc, List, [], ◌∷◌, length, Option, None, Some, IsSomeAnd}
 use Rattle.std.proofs.Common.{ap, arith, inl, inr, refl}
+use Rattle.trau_io.specs.declared.line.Side.{Side}
+use Rattle.trau_io.specs.declared.line.Side.TheVariants.{Up, Pcm, Down, Out}
+use Rattle.trau_io.specs.Indices.{index_of_line}
 use Rattle.trau_files.specs.declared.trunk.seats.Access.{Access}
 use Rattle.trau_files.specs.declared.trunk.seats.Access.TheVariants.{Reading, Writing}
 
@@ -25,3 +28,17 @@ some_and P (Some x) is = (x, refl, is)
 pub nothing_of : (xs : List ℕ) → length xs ≡ 0 → xs ≡ []
 nothing_of [] none = refl
 nothing_of (x ∷ xs) none = absurd (omega (arith, none))
+
+-- each index is a line's
+pub line_with : (k : ℕ) → (c : ℕ) × (side : Side) × (index_of_line c side ≡ k)
+line_with zero = (0, Up, refl)
+line_with (suc zero) = (0, Pcm, refl)
+line_with (suc (suc zero)) = (0, Down, refl)
+line_with (suc (suc (suc zero))) = (0, Out, refl)
+line_with (suc (suc (suc (suc k)))) = let line = line_with k in (suc line.0, line.1, next line.0 line.1 line.2)
+  where
+    next : (c : ℕ) (side : Side) → index_of_line c side ≡ k → index_of_line (suc c) side ≡ suc (suc (suc (suc k)))
+    next c Up is = omega (arith, is)
+    next c Pcm is = omega (arith, is)
+    next c Down is = omega (arith, is)
+    next c Out is = omega (arith, is)

@@ -18,6 +18,7 @@ pub changed : (start now new : Disk) (claims : List (Option Claim)) (given put p
     Changes now new c.file (put' call side) → Gains put put' call side more → FilesHold start new claims given put'
 changed start now new claims given put put' call side c more files apart there writes changes gains = record {
   names = λ name f led. changes.names name ∙ files.names name f led;
+  newly_led = λ name f none leads. files.newly_led name f none (sym (changes.names name) ∙ leads);
   unwritten = λ f none. changes.others f (λ e. none (index_of_line call side) c there writes (sym e)) ∙ files.unwritten f none;
   lines = λ c' s'. elim (same_or_other (index_of_line c' s') (index_of_line call side)) [
     | inl same ↦ let line = same_line c' call s' side same in
@@ -68,6 +69,7 @@ pub read_on : (start now : Disk) (claims : List (Option Claim)) (given given' pu
     FilesHold start now claims given' put
 read_on start now claims given given' put call side c more files there gave gains = record {
   names = files.names;
+  newly_led = files.newly_led;
   unwritten = files.unwritten;
   lines = λ c' s'. elim (same_or_other (index_of_line c' s') (index_of_line call side)) [
     | inl same ↦ let line = same_line c' call s' side same in

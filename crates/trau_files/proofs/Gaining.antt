@@ -32,6 +32,7 @@ pub same_given : (start now : Disk) (claims : List (Option Claim)) (given given'
     FilesHold start now claims given put → FilesHold start now claims given' put
 same_given start now claims given given' put same files = record {
   names = files.names;
+  newly_led = files.newly_led;
   unwritten = files.unwritten;
   lines = λ c s. subst (λ (x : List ℕ). IsLine start now (claim_at claims (index_of_line c s)) (file_name c s) x (put c s)) (sym (same c s)) (files.lines c s);
 }
@@ -40,6 +41,7 @@ pub same_put : (start now : Disk) (claims : List (Option Claim)) (given put put'
     FilesHold start now claims given put → FilesHold start now claims given put'
 same_put start now claims given put put' same files = record {
   names = files.names;
+  newly_led = files.newly_led;
   unwritten = files.unwritten;
   lines = λ c s. subst (λ (x : List ℕ). IsLine start now (claim_at claims (index_of_line c s)) (file_name c s) (given c s) x) (sym (same c s)) (files.lines c s);
 }

@@ -17,6 +17,7 @@ holds_at_first : {D F : Type 0} (does : Operations D F) (honest : IsHonest does)
 holds_at_first does honest t lines seats claims = record {
   files = record {
     names = λ _ _ led. led;
+    newly_led = λ name f none leads. let never : ⊥ = cc in absurd never;
     unwritten = λ _ _. refl;
     lines = λ c s. rw (empty t.files.claims claims (index_of_line c s)) (record {
       leads = tt;

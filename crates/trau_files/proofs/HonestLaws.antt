@@ -1,5 +1,5 @@
 -- What is known of the files of an honest folder from what they hold.
-use Rattle.std.proofs.Common.{IsSome, ◌≡◌, ◌∙◌, ℕ, List, [], length, take, Option, None, Some, IfSome}
+use Rattle.std.proofs.Common.{◌≡◌, ◌∙◌, ℕ, List, [], length, take, Option, None, Some, IfSome}
 use Rattle.std.proofs.Common.{ap, eq-zero-or-pos, inl, inr, refl, subst, sym}
 use Rattle.trau_io.specs.declared.line.Side.{Side}
 use Rattle.trau_io.specs.Indices.{index_of_line}
@@ -20,14 +20,14 @@ gave_files start now claims given put files call side only = elim (eq-zero-or-po
       let line = some_and _ (claim_at claims (index_of_line call side)) ((files.lines call side).given some) in
       let leads : now.file_of (file_name call side) ≡ Some line.0.file =
       subst (λ (x : Option Claim). IfSome x (λ d. now.file_of (file_name call side) ≡ Some d.file)) line.1 (files.lines call side).leads in
-      let there = its (start.file_of (file_name call side)) refl only.0 line.0.file leads in
-      subst (λ (x : List ℕ). given call side ≡ take (length (given call side)) x) there (line.2 (only.1 line.0 line.1))
+      let there = its (start.file_of (file_name call side)) refl line.0.file leads in
+      subst (λ (x : List ℕ). given call side ≡ take (length (given call side)) x) there (line.2 (only line.0 line.1))
 ]
   where
-    its : (o : Option FileIdentity) → start.file_of (file_name call side) ≡ o → IsSome o → (f : FileIdentity) → now.file_of (file_name call side) ≡ Some f →
+    its : (o : Option FileIdentity) → start.file_of (file_name call side) ≡ o → (f : FileIdentity) → now.file_of (file_name call side) ≡ Some f →
         start.octets f ≡ octets_if start o
-    its None is some f leads = let no : ⊥ = cc in absurd no
-    its (Some g) is some f leads =
+    its None is f leads = files.newly_led (file_name call side) f is leads
+    its (Some g) is f leads =
         let both : Some f ≡ Some g = sym leads ∙ files.names (file_name call side) g is in
         let one : f ≡ g = cc in
         ap start.octets one

@@ -14,14 +14,14 @@ use Rattle.trau_files.specs.Claims.{AreApart, claim_at}
 use Rattle.trau_files.specs.Files.{OpenFiles, OpenLine, file_name, in_seat}
 use Rattle.trau_files.specs.Trunk.{IsFound}
 use Rattle.trau_files.specs.Folder.{Operations}
-use Rattle.trau_files.specs.Disk.{Changes, Disk, IsNew, KeepsNames, KeepsOctets, Place, Stays}
+use Rattle.trau_files.specs.Disk.{Changes, Disk, IsNew, KeepsNames, KeepsOctets, LeadsOnToNew, Place, Stays}
 use Rattle.trau_files.specs.Honest.{IsHonest}
 use Rattle.trau_files.specs.Holds.{FilesHold, IsPlaced}
 use Rattle.trau_files.specs.declared.trunk.fault.Fault.{Fault}
 use Rattle.trau_files.specs.declared.trunk.fault.Fault.TheVariants.{System, Shared}
 use Rattle.trau_files.specs.Opening.{FailsToOpen, IsClaimed, IsOpened, Opens, OpensOrMakes, Starts}
 use Rattle.trau_files.proofs.Cases.{reads_or_writes}
-use Rattle.trau_files.proofs.Noting.{Grows, IsNoted, grows_same, grows_twice, keeps_names, kept, noted, same_place, stays_twice}
+use Rattle.trau_files.proofs.Noting.{Grows, IsNoted, grows_same, grows_twice, keeps_names, kept, leads_on, noted, same_place, stays_twice}
 use Rattle.trau_files.proofs.Changing.{changed}
 
 module _ {D F : Type 0} (does : Operations D F) (honest : IsHonest does) (call : ℕ) (side : Side) (access : Access) (at : ℕ) where
@@ -36,25 +36,32 @@ module _ {D F : Type 0} (does : Operations D F) (honest : IsHonest does) (call :
     leads : (honest.disk new).file_of (file_name call side) ≡ Some (honest.place file).file
     fresh : made ≡ true → IsNew (honest.disk old) (honest.place file).file
     names : KeepsNames (honest.disk old) (honest.disk new)
+    no_others : LeadsOnToNew (honest.disk old) (honest.disk new)
     octets : KeepsOctets (honest.disk old) (honest.disk new)
 
   opened : (old new : D) (made : Bool) (file : F) → OpensOrMakes does old new call side access at made (Ok file) → Opened old new made file
   opened old new false file opens =
       let one = honest.opens old new access false (file_name call side) file opens.0 in
-      record { start = one.start; leads = one.leads; fresh = λ e. let never : ⊥ = cc in absurd never; names = one.names; octets = one.octets }
+      record { start = one.start; leads = one.leads; fresh = λ e. let never : ⊥ = cc in absurd never; names = one.names; no_others = one.no_others; octets = one.octets }
   opened old new true file opens =
       let missing = honest.opens_none old opens.0 access false (file_name call side) opens.1 opens.2 in
       let one = honest.opens opens.0 new access true (file_name call side) file opens.4 in
       let first = keeps_names (honest.disk old) (honest.disk opens.0) missing.0 in
       let none : (honest.disk opens.0).file_of (file_name call side) ≡ None = missing.0.0 (file_name call side) ∙ missing.1 opens.3.2 in
+      let new_before : (f : FileIdentity) → IsNew (honest.disk opens.0) f → IsNew (honest.disk old) f =
+      λ f fresh. (λ name led. fresh.0 name (first name f led), sym (missing.0.1 f) ∙ fresh.1) in
       record {
         start = one.start;
         leads = one.leads;
         fresh = λ _. elim one.from [
           | inl led ↦ let never : ⊥ = cc in absurd never
-          | inr fresh ↦ (λ name led. fresh.1.0 name (first name (honest.place file).file led), sym (missing.0.1 (honest.place file).file) ∙ fresh.1.1)
+          | inr fresh ↦ new_before (honest.place file).file fresh.1
         ];
         names = λ name f led. one.names name f (first name f led);
+        no_others = λ name f led. elim (one.no_others name f led) [
+          | inl before ↦ inl (sym (missing.0.0 name) ∙ before)
+          | inr fresh ↦ inr (new_before f fresh)
+        ];
         octets = λ f. one.octets f ∙ missing.0.1 f;
       }
 
@@ -66,7 +73,7 @@ module _ {D F : Type 0} (does : Operations D F) (honest : IsHonest does) (call :
     claimed old new claims claims' file metadata files is =
         let one = opened old new is.made file is.seen.opened in
         let same = honest.identifies file metadata is.identity is.seen.told is.identified in
-        let before = kept start (honest.disk old) (honest.disk new) claims given put one.names one.octets files in
+        let before = kept start (honest.disk old) (honest.disk new) claims given put one.names one.no_others one.octets files in
         let after = noted start (honest.disk new) claims claims' given put call side metadata (record { file = is.identity; access = access }) before
         (honest.tells file metadata is.seen.told) is.noted is.apart (one.leads ∙ ap Some (sym same)) in
         (after.0, after.1, (after.2.0, after.2.1, after.2.2 ∙ same, after.2.3), one.start)
@@ -74,7 +81,8 @@ module _ {D F : Type 0} (does : Operations D F) (honest : IsHonest does) (call :
     stays_files : (old new : D) (claims : List (Option Claim)) → Stays (honest.disk old) (honest.disk new) → FilesHold start (honest.disk old) claims given put →
         FilesHold start (honest.disk new) claims given put
     stays_files old new claims stays files =
-        kept start (honest.disk old) (honest.disk new) claims given put (keeps_names (honest.disk old) (honest.disk new) stays) stays.1 files
+        kept start (honest.disk old) (honest.disk new) claims given put (keeps_names (honest.disk old) (honest.disk new) stays)
+        (leads_on (honest.disk old) (honest.disk new) stays) stays.1 files
 
     -- a file that didn't start was changed by nothing
     not_started : (metadata : Metadata) (before after : D) (old new : F) (e : Error) → IsFile (file_type metadata) →
@@ -98,7 +106,7 @@ module _ {D F : Type 0} (does : Operations D F) (honest : IsHonest does) (call :
       )
       | inr (inl f) ↦
           let one = opened old f.3 f.2 f.1 f.4 in
-          let before = kept start (honest.disk old) (honest.disk f.3) claims given put one.names one.octets files in (
+          let before = kept start (honest.disk old) (honest.disk f.3) claims given put one.names one.no_others one.octets files in (
             subst (λ (cs : List (Option Claim)). FilesHold start (honest.disk new) cs given put) (sym f.0)
                 (stays_files f.3 new claims (honest.closes f.3 new f.1 f.6) before),
             grows_same claims claims' f.0,
@@ -111,7 +119,7 @@ module _ {D F : Type 0} (does : Operations D F) (honest : IsHonest does) (call :
     ]
     failed old new claims claims' (Shared other) files f =
         let one = opened old f.mid f.made f.file f.seen.opened in
-        let before = kept start (honest.disk old) (honest.disk f.mid) claims given put one.names one.octets files in
+        let before = kept start (honest.disk old) (honest.disk f.mid) claims given put one.names one.no_others one.octets files in
         let without = stays_files f.mid f.without claims (honest.closes f.mid f.without f.file f.closed) before in (
           subst (λ (cs : List (Option Claim)). FilesHold start (honest.disk new) cs given put) (sym f.same_claims) (elim f.left [
             | inl same ↦ subst (λ (d : D). FilesHold start (honest.disk d) claims given put) (sym same) without
@@ -124,6 +132,7 @@ module _ {D F : Type 0} (does : Operations D F) (honest : IsHonest does) (call :
                 (λ name g led. removes.names name g (closes.0 name ∙ one.names name g led)
                 (λ e. let same : Some g ≡ Some (honest.place f.file).file = sym e ∙ leads in
                 let is : g ≡ (honest.place f.file).file = cc in fresh.0 name (led ∙ ap Some is)))
+                (λ name g led. one.no_others name g (sym (closes.0 name) ∙ removes.no_others name g led))
                 (λ g. elim (removes.octets g) [
                   | inl same ↦ same ∙ closes.1 g ∙ one.octets g
                   | inr lost ↦ let both : Some g ≡ Some (honest.place f.file).file = sym lost.0 ∙ leads in

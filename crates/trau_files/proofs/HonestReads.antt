@@ -1,5 +1,5 @@
 -- What the files of an honest folder hold, after a read of a line.
-use Rattle.std.proofs.Common.{IsSome, ◌≡◌, ◌∙◌, ◌<◌, ◌+◌, ◌^◌, ℕ, List, ◌++◌, length, take, drop, Option, None, Some, Result, Ok, Err, IfSome}
+use Rattle.std.proofs.Common.{◌≡◌, ◌∙◌, ◌<◌, ◌+◌, ◌^◌, ℕ, List, ◌++◌, length, take, drop, Option, None, Some, Result, Ok, Err, IfSome}
 use Rattle.std.proofs.Common.{ap, arith, length-append, length-drop, slice_get, inl, inr, refl, subst, sym}
 use Rattle.std.specs.Io.{ReadsAtMost}
 use Rattle.trau_io.specs.declared.line.Side.{Side}
@@ -94,7 +94,7 @@ module _ {D F : Type 0} (does : Operations D F) (honest : IsHonest does) (start 
 gives_next : {D F : Type 0} (does : Operations D F) (honest : IsHonest does) (start : Disk) (given given' put : ℕ → Side → List ℕ) (old new : TrunkFiles D F)
     (call : ℕ) (side : Side) (l : FileLine) (buf : List ℕ) (result : Result ℕ Failed) → ReadsAtMost result buf →
     line_at old.lines (index_of_line call side) ≡ l → AreApart new.files.claims → TrunkReads does old new call side l result buf →
-    Gains given given' call side (moved result buf) → Holds honest start given put old → IsOnlyRead start new.files.claims call side →
+    Gains given given' call side (moved result buf) → Holds honest start given put old → IsOnlyRead new.files.claims call side →
     ReadConsumes (contents_of start given put old.lines call side).to_come (contents_of start given' put new.lines call side).to_come result buf
 gives_next does honest start given given' put old new call side l buf (Ok n) bound is apart reads gains holds only =
     let counts = holds.counts call side in
@@ -107,11 +107,11 @@ gives_next does honest start given given' put old new call side l buf (Ok n) bou
     let gave = gave_some does honest new.files.folder before.file now.file n buf claim.0.file l.read reads.files.3 claim.2 in
     let total : length (given' call side) ≡ length (given call side) + n =
     gained given given' call side (take n buf) gains ∙ ap (λ (x : ℕ). length (given call side) + x) (sym bound.1) in
-    let reading = only.1 claim.0 claim.1 in
+    let reading = only claim.0 claim.1 in
     let unwritten = find.0.unwritten claim.0.file (read_unwritten new.files.claims (index_of_line call side) claim.0 apart claim.1 reading) in
     let leads : (honest.disk new.files.folder).file_of (file_name call side) ≡ Some claim.0.file = leads_to claim.0 claim.1 find.0 in
     let same : (honest.disk new.files.folder).octets claim.0.file ≡ octets_if start (start.file_of (file_name call side)) =
-    unwritten ∙ its (start.file_of (file_name call side)) refl claim.0.file leads find.0 only.0 in
+    unwritten ∙ its (start.file_of (file_name call side)) refl claim.0.file leads find.0 in
     let next : GivesOctets (drop l.read (octets_if start (start.file_of (file_name call side)))) (drop (l.read + n) (octets_if start (start.file_of (file_name call side)))) n buf =
     subst (λ (x : List ℕ). GivesOctets (drop l.read x) (drop (l.read + n) x) n buf) same gave.0 in
     subst (λ (x : ℕ). GivesOctets (drop (length (given call side)) (octets_if start (start.file_of (file_name call side))))
@@ -124,9 +124,9 @@ gives_next does honest start given given' put old new call side l buf (Ok n) bou
         subst (λ (x : Option Claim). IfSome x (λ d. (honest.disk new.files.folder).file_of (file_name call side) ≡ Some d.file)) there (files.lines call side).leads
 
     its : (o : Option FileIdentity) → start.file_of (file_name call side) ≡ o → (f : FileIdentity) → (honest.disk new.files.folder).file_of (file_name call side) ≡ Some f →
-        FilesHold start (honest.disk new.files.folder) new.files.claims given put → IsSome o → start.octets f ≡ octets_if start o
-    its None is f leads files some = let no : ⊥ = cc in absurd no
-    its (Some g) is f leads files some =
+        FilesHold start (honest.disk new.files.folder) new.files.claims given put → start.octets f ≡ octets_if start o
+    its None is f leads files = files.newly_led (file_name call side) f is leads
+    its (Some g) is f leads files =
         let both : Some f ≡ Some g = sym leads ∙ files.names (file_name call side) g is in
         let one : f ≡ g = cc in
         ap start.octets one
@@ -141,15 +141,13 @@ read_holds does old new call side l result buf is known others apart reads hones
     let here = got old.lines (index_of_line call side) l (record { read = 0; written = 0; faults = 0 }) is in
     record {
       holds = reads_hold does honest start given given' put old new call side l buf result known.bound here.0 here.1 apart reads gains holds;
-      only = still;
+      only = still_read does old new call side l result buf reads;
       this = λ only. record {
         bound = known.bound;
-        to_come = gives_next does honest start given given' put old new call side l buf result known.bound here.1 apart reads gains holds (still only);
+        to_come = gives_next does honest start given given' put old new call side l buf result known.bound here.1 apart reads gains holds
+            (still_read does old new call side l result buf reads only);
         written = refl;
         cause = known.cause;
       };
       others = others_known start given given' put put old.lines new.lines call side gains.others (λ _ _ _. refl) others;
     }
-  where
-    still : IsOnlyRead start old.files.claims call side → IsOnlyRead start new.files.claims call side
-    still only = (only.0, still_read does old new call side l result buf reads only.1)

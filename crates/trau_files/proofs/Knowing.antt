@@ -1,5 +1,5 @@
 -- A trunk over a folder that is known to be honest: what is known of its lines' octets, operation by operation.
-use Rattle.std.proofs.Common.{IsSome, ◌≡◌, ◌⊎◌, ◌∙◌, ◌<◌, ◌≤◌, ◌+◌, ℕ, zero, suc, All, List, [], ◌∷◌, ◌++◌, length, take, drop, Option, None, Some, Result, Ok, Err, IfOk, ap, arith, eq-zero-or-pos, length-append, length-take-le, slice_get, slice_set, inl, inr, refl, subst, sym}
+use Rattle.std.proofs.Common.{◌≡◌, ◌⊎◌, ◌∙◌, ◌<◌, ◌≤◌, ◌+◌, ℕ, zero, suc, All, List, [], ◌∷◌, ◌++◌, length, take, Option, None, Some, Result, Ok, Err, IfOk, ap, arith, eq-zero-or-pos, length-append, length-take-le, slice_get, slice_set, inl, inr, refl, subst, sym}
 use Rattle.std.specs.Io.{ReadsAtMost}
 use Rattle.std.specs.Io.KnownBytes.{ReadConsumes, WriteAppends}
 use Rattle.trau_io.specs.declared.line.Side.{Side}
@@ -15,7 +15,7 @@ use Rattle.trau_files.proofs.Seating.{empty}
 use Rattle.trau_files.specs.declared.trunk.claims.Claim.{Claim}
 use Rattle.trau_files.specs.declared.trunk.claims.FileIdentity.{FileIdentity}
 use Rattle.trau_files.specs.Claims.{OthersKeep, claim_at}
-use Rattle.trau_files.specs.Contents.{CountsStay, HaveUsedThem, IsAtStart, IsForReading, IsMade, IsRecorded, Knows, KnowsIf, NotesNoWriting, contents_if, contents_in, first_if, line_of, taken_of}
+use Rattle.trau_files.specs.Contents.{CountsStay, HaveUsedThem, IsAtStart, IsForReading, IsMade, IsRecorded, Knows, KnowsIf, NotesNoWriting, contents_if, contents_in, first_if, line_of, rest_of, taken_of}
 use Rattle.trau_files.specs.Files.{FileLine, OpenFiles, OpenLine, file_name, in_seat, known_line, states_of}
 use Rattle.trau_files.specs.Folder.{Operations}
 use Rattle.trau_files.specs.Disk.{Disk, octets_if}
@@ -54,12 +54,10 @@ free (Err e) buf = tt
 
 line_reads : (start : Disk) (side : Side) (file : Option FileIdentity) (gave gave' : ℕ) (took : List ℕ) (faults faults' : ℕ) (result : Result ℕ Failed) (buf : List ℕ) →
     ReadsAtMost result buf → HasCause faults faults' result →
-    (IsRecorded side → (f : FileIdentity) → file ≡ Some f → ReadConsumes (Some (drop gave (start.octets f))) (Some (drop gave' (start.octets f))) result buf) →
+    (IsRecorded side → ReadConsumes (Some (rest_of start file gave)) (Some (rest_of start file gave')) result buf) →
     Reads (line_of start side file gave took faults) (line_of start side file gave' took faults') result buf
-line_reads start Up None gave gave' took faults faults' result buf bound cause next = record { bound = bound; to_come = free result buf; written = refl; cause = cause }
-line_reads start Up (Some f) gave gave' took faults faults' result buf bound cause next = record { bound = bound; to_come = next tt f refl; written = refl; cause = cause }
-line_reads start Pcm None gave gave' took faults faults' result buf bound cause next = record { bound = bound; to_come = free result buf; written = refl; cause = cause }
-line_reads start Pcm (Some f) gave gave' took faults faults' result buf bound cause next = record { bound = bound; to_come = next tt f refl; written = refl; cause = cause }
+line_reads start Up file gave gave' took faults faults' result buf bound cause next = record { bound = bound; to_come = next tt; written = refl; cause = cause }
+line_reads start Pcm file gave gave' took faults faults' result buf bound cause next = record { bound = bound; to_come = next tt; written = refl; cause = cause }
 line_reads start Down file gave gave' took faults faults' result buf bound cause next = record { bound = bound; to_come = free result buf; written = refl; cause = cause }
 line_reads start Out file gave gave' took faults faults' result buf bound cause next = record { bound = bound; to_come = free result buf; written = refl; cause = cause }
 
@@ -81,7 +79,7 @@ line_refused start Pcm file gave took faults faults' e bytes read cause = record
 line_refused start Down file gave took faults faults' e bytes read cause = absurd read
 line_refused start Out file gave took faults faults' e bytes read cause = absurd read
 
-recorded_or_made : (side : Side) → IsRecorded side → IsMade side → ⊥
+pub recorded_or_made : (side : Side) → IsRecorded side → IsMade side → ⊥
 recorded_or_made Up read made = made
 recorded_or_made Pcm read made = made
 recorded_or_made Down read made = read
@@ -250,9 +248,7 @@ read_known {does = does} (Some honest) start old new call side result buf known 
           (states_of old.lines call side).faults) x result buf) (sym after)
           (line_reads start side (start.file_of (file_name call side)) (length (knows.given call side)) (length (given' call side)) (knows.put call side)
           (states_of old.lines call side).faults (states_of new.lines call side).faults result buf known.bound known.cause
-          (λ read f is. subst (λ (o : Option FileIdentity). ReadConsumes (Some (drop (length (knows.given call side)) (octets_if start o)))
-          (Some (drop (length (given' call side)) (octets_if start o))) result buf) is
-          (keeps.this (subst (λ (o : Option FileIdentity). IsSome o) (sym is) refl, knows.recorded call side read)).to_come))),
+          (λ read. (keeps.this (knows.recorded call side read)).to_come))),
       others_stay does honest start knows.given given' knows.put knows.put old new call side knows.holds keeps.holds others gains.others (λ _ _ _. refl),
     )
 

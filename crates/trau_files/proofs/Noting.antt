@@ -12,15 +12,18 @@ use Rattle.trau_files.specs.declared.trunk.seats.Access.{Access}
 use Rattle.trau_files.specs.declared.trunk.seats.Access.TheVariants.{Writing}
 use Rattle.trau_files.specs.Claims.{AreApart, Has, NotesFile, OthersKeep, claim_at}
 use Rattle.trau_files.specs.Files.{OpenLine, file_name}
-use Rattle.trau_files.specs.Disk.{Disk, KeepsNames, KeepsOctets, Place, Stays}
+use Rattle.trau_files.specs.Disk.{Disk, IsNew, KeepsNames, KeepsOctets, LeadsOnToNew, Place, Stays}
 use Rattle.trau_files.specs.Holds.{FilesHold, IsLine, IsPlaced, IsUnwritten}
-use Rattle.trau_files.proofs.Cases.{nothing_of, same_or_other, some_and}
+use Rattle.trau_files.proofs.Cases.{line_with, nothing_of, same_or_other, some_and}
 
 pub same_place : (p : Place) (f : FileIdentity) (n : ℕ) → p.file ≡ f → p.at ≡ n → p ≡ record { file = f; at = n }
 same_place p f n file at = λ i. record { file = file i; at = at i }
 
 pub keeps_names : (old new : Disk) → Stays old new → KeepsNames old new
 keeps_names old new stays name f led = stays.0 name ∙ led
+
+pub leads_on : (old new : Disk) → Stays old new → LeadsOnToNew old new
+leads_on old new stays name f led = inl (sym (stays.0 name) ∙ led)
 
 pub stays_twice : (a b c : Disk) → Stays a b → Stays b c → Stays a c
 stays_twice a b c first second = (λ name. second.0 name ∙ first.0 name, λ f. second.1 f ∙ first.1 f)
@@ -61,10 +64,24 @@ line_kept start now new (Some c) name given put names octets line = record {
   ];
 }
 
-pub kept : (start now new : Disk) (claims : List (Option Claim)) (given put : ℕ → Side → List ℕ) → KeepsNames now new → KeepsOctets now new →
-    FilesHold start now claims given put → FilesHold start new claims given put
-kept start now new claims given put names octets files = record {
+-- no line has a file for writing to which no name leads
+unwritten_new : (start now : Disk) (claims : List (Option Claim)) (given put : ℕ → Side → List ℕ) (f : FileIdentity) → FilesHold start now claims given put →
+    IsNew now f → IsUnwritten claims f
+unwritten_new start now claims given put f files fresh k c there writes same =
+    let line = line_with k in
+    let here : claim_at claims (index_of_line line.0 line.1) ≡ Some c = ap (claim_at claims) line.2 ∙ there in
+    let led : now.file_of (file_name line.0 line.1) ≡ Some c.file =
+    subst (λ (x : Option Claim). IfSome x (λ d. now.file_of (file_name line.0 line.1) ≡ Some d.file)) here (files.lines line.0 line.1).leads in
+    fresh.0 (file_name line.0 line.1) (led ∙ ap Some same)
+
+pub kept : (start now new : Disk) (claims : List (Option Claim)) (given put : ℕ → Side → List ℕ) → KeepsNames now new → LeadsOnToNew now new →
+    KeepsOctets now new → FilesHold start now claims given put → FilesHold start new claims given put
+kept start now new claims given put names no_others octets files = record {
   names = λ name f led. names name f (files.names name f led);
+  newly_led = λ name f none leads. elim (no_others name f leads) [
+    | inl before ↦ files.newly_led name f none before
+    | inr fresh ↦ sym (files.unwritten f (unwritten_new start now claims given put f files fresh)) ∙ fresh.1
+  ];
   unwritten = λ f none. octets f ∙ files.unwritten f none;
   lines = λ call side. line_kept start now new (claim_at claims (index_of_line call side)) (file_name call side) (given call side) (put call side) names octets (files.lines call side);
 }
@@ -91,6 +108,7 @@ noted start now old new given put call side metadata c files disk notes apart le
   | inl (_, inr new_one) ↦ (
     record {
       names = files.names;
+      newly_led = files.newly_led;
       unwritten = λ f none. files.unwritten f (unwritten_before old new f (grows new_one.0 new_one.1 new_one.2) none);
       lines = λ c' s'. elim (same_or_other (index_of_line c' s') (index_of_line call side)) [
         | inl same ↦ let line = same_line c' call s' side same in

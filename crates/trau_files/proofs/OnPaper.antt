@@ -20,6 +20,7 @@ honest_on_paper = record {
     leads = one.leads;
     from = elim one.from [ inl led ↦ inl led | inr fresh ↦ inr (makes access may fresh.0, fresh.1) ];
     names = one.names;
+    no_others = one.no_others;
     octets = one.octets;
   };
   opens_none = λ old new access may name e one. one;

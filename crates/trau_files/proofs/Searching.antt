@@ -1,5 +1,5 @@
 -- Which files of incoming lines are noted, after the folder was searched.
-use Rattle.std.proofs.Common.{◌≡◌, ◌≢◌, ◌∙◌, ◌<◌, ◌+◌, ℕ, List, length, Option, None, Some, All, slice_set, ap, arith, inl, inr, refl, subst, sym}
+use Rattle.std.proofs.Common.{◌≡◌, ◌≢◌, ◌⊎◌, ◌∙◌, ◌<◌, ◌+◌, ℕ, Bool, true, false, List, length, Option, None, Some, All, slice_set, ap, arith, inl, inr, refl, subst, sym}
 use Rattle.call_number.specs.declared.TheConstants.{LAST_CALL}
 use Rattle.trau_io.specs.declared.line.Side.{Side}
 use Rattle.trau_io.specs.declared.line.Side.TheVariants.{Up, Pcm}
@@ -8,7 +8,7 @@ use Rattle.trau_io.proofs.Tables.{same_line}
 use Rattle.trau_files.specs.declared.trunk.claims.FileIdentity.{FileIdentity}
 use Rattle.trau_files.specs.Files.{file_name}
 use Rattle.trau_files.specs.Folder.{Operations}
-use Rattle.trau_files.specs.Recordings.{AreRecordings, AreSearched, IsNoRecording, IsRecording, LedElsewhere, LedNowhere, LedTo, noted_at}
+use Rattle.trau_files.specs.Recordings.{AreRecordings, AreSearched, IsMissing, IsNoRecording, IsRecording, LeadsNowhere, LedNowhere, LedTo, noted_at}
 use Rattle.trau_files.proofs.Cases.{same_or_other}
 use Rattle.trau_files.proofs.Seating.{empty, set_place, within}
 
@@ -32,20 +32,20 @@ module _ {D F : Type 0} (does : Operations D F) where
     | inr s ↦ are k file (sym s ∙ there)
   ]
 
-  pub still_searched : (files : List (Option FileIdentity)) (p : ℕ) (found : FileIdentity) (below : ℕ) → AreSearched does files below →
-      AreSearched does (slice_set files p (Some found)) below
-  still_searched files p found below are call side incoming low none = elim (set_place files p (Some found) None (index_of_line call side)) [
+  pub still_searched : (Missing : List ℕ → Type 0) (files : List (Option FileIdentity)) (p : ℕ) (found : FileIdentity) (below : ℕ) →
+      AreSearched Missing files below → AreSearched Missing (slice_set files p (Some found)) below
+  still_searched Missing files p found below are call side incoming low none = elim (set_place files p (Some found) None (index_of_line call side)) [
     | inl s ↦ let never : ⊥ = cc in absurd never
     | inr s ↦ are call side incoming low (sym s ∙ none)
   ]
 
   -- the lines of one more call were looked up
-  pub one_more : (old mid new : List (Option FileIdentity)) (call : ℕ) → AreSearched does old call →
-      (noted_at mid (index_of_line call Up) ≡ None → LedNowhere does (file_name call Up)) →
+  pub one_more : (Missing : List ℕ → Type 0) (old mid new : List (Option FileIdentity)) (call : ℕ) → AreSearched Missing old call →
+      (noted_at mid (index_of_line call Up) ≡ None → Missing (file_name call Up)) →
       ((k : ℕ) → k ≢ index_of_line call Up → noted_at mid k ≡ noted_at old k) →
-      (noted_at new (index_of_line call Pcm) ≡ None → LedNowhere does (file_name call Pcm)) →
-      ((k : ℕ) → k ≢ index_of_line call Pcm → noted_at new k ≡ noted_at mid k) → AreSearched does new (call + 1)
-  one_more old mid new call before up others_up pcm others_pcm c s incoming low none = elim (same_or_other c call) [
+      (noted_at new (index_of_line call Pcm) ≡ None → Missing (file_name call Pcm)) →
+      ((k : ℕ) → k ≢ index_of_line call Pcm → noted_at new k ≡ noted_at mid k) → AreSearched Missing new (call + 1)
+  one_more Missing old mid new call before up others_up pcm others_pcm c s incoming low none = elim (same_or_other c call) [
     | inl same ↦ elim incoming.2 [
       | inl is ↦ this_up same is
       | inr is ↦ this_pcm same is
@@ -55,30 +55,42 @@ module _ {D F : Type 0} (does : Operations D F) where
         ∙ sym (others_pcm (index_of_line c s) (λ e. other (same_line c call s Pcm e).0)) ∙ none)
   ]
     where
-      this_up : c ≡ call → s ≡ Up → LedNowhere does (file_name c s)
+      this_up : c ≡ call → s ≡ Up → Missing (file_name c s)
       this_up same is =
           let there : noted_at new (index_of_line call Up) ≡ None = ap (noted_at new) (sym (ap (λ (x : ℕ). index_of_line x s) same ∙ ap (index_of_line call) is)) ∙ none in
           rw (same, is) (up (sym (others_pcm (index_of_line call Up) (λ e. omega (arith, e))) ∙ there))
 
-      this_pcm : c ≡ call → s ≡ Pcm → LedNowhere does (file_name c s)
+      this_pcm : c ≡ call → s ≡ Pcm → Missing (file_name c s)
       this_pcm same is =
           let there : noted_at new (index_of_line call Pcm) ≡ None = ap (noted_at new) (sym (ap (λ (x : ℕ). index_of_line x s) same ∙ ap (index_of_line call) is)) ∙ none in
           rw (same, is) (pcm there)
 
-  pub none_searched : (files : List (Option FileIdentity)) → AreSearched does files 1
-  none_searched files call side incoming low none = absurd (omega (arith, incoming.0, low))
+  pub none_searched : (Missing : List ℕ → Type 0) (files : List (Option FileIdentity)) → AreSearched Missing files 1
+  none_searched Missing files call side incoming low none = absurd (omega (arith, incoming.0, low))
 
   -- no line before the end has the file, so no line has
   pub noted_nowhere : (files : List (Option FileIdentity)) (file : FileIdentity) (n : ℕ) → length files ≡ n →
       ((k : ℕ) → k < n → noted_at files k ≢ Some file) → (k : ℕ) → noted_at files k ≢ Some file
   noted_nowhere files file n size before k there = before k (omega (arith, within files k file there, size)) there
 
+  -- a folder that is asked as it is was asked at some time
+  pub were_searched : (folder : D) (files : List (Option FileIdentity)) (below : ℕ) → AreSearched (LeadsNowhere does folder) files below →
+      AreSearched (LedNowhere does) files below
+  were_searched folder files below searched call side incoming low none = (folder, searched call side incoming low none)
+
+  -- so a name is missing, whether a file was made or not
+  pub now_searched : (folder : D) (made : Bool) (files : List (Option FileIdentity)) (below : ℕ) → AreSearched (LeadsNowhere does folder) files below →
+      AreSearched (IsMissing does folder made) files below
+  now_searched folder true files below searched = searched
+  now_searched folder false files below searched = were_searched folder files below searched
+
   -- no incoming line's name led to a file that is noted for none
-  pub no_recording : (files : List (Option FileIdentity)) (file : FileIdentity) → AreRecordings does files → AreSearched does files (LAST_CALL + 1) →
-      ((k : ℕ) → noted_at files k ≢ Some file) → IsNoRecording does file
-  no_recording files file are searched none call side incoming = elsewhere (noted_at files (index_of_line call side)) refl
+  pub no_recording : (folder : D) (made : Bool) (files : List (Option FileIdentity)) (file : FileIdentity) → AreRecordings does files →
+      AreSearched (IsMissing does folder made) files (LAST_CALL + 1) → ((k : ℕ) → noted_at files k ≢ Some file) → IsNoRecording does folder made file
+  no_recording folder made files file are searched none call side incoming = elsewhere (noted_at files (index_of_line call side)) refl
     where
-      elsewhere : (o : Option FileIdentity) → noted_at files (index_of_line call side) ≡ o → LedElsewhere does (file_name call side) file
+      elsewhere : (o : Option FileIdentity) → noted_at files (index_of_line call side) ≡ o →
+          IsMissing does folder made (file_name call side) ⊎ ((other : FileIdentity) × LedTo does (file_name call side) other × (other ≢ file))
       elsewhere None is = inl (searched call side incoming (omega (arith, incoming.1)) is)
       elsewhere (Some other) is =
           let found = are (index_of_line call side) other is in

@@ -29,16 +29,15 @@ IsMade Pcm = ⊥
 IsMade Down = Unit {0}
 IsMade Out = Unit {0}
 
--- the octets to come of a recorded line that gave n octets: those of its file at the start, if there was one
-abbrev pub rest_of : Disk → Option FileIdentity → ℕ → Option (List ℕ)
-rest_of start None n = None
-rest_of start (Some f) n = Some (drop n (start.octets f))
+-- the octets to come of a recorded line that gave n octets: those of its file at the start; none if there was no file
+abbrev pub rest_of : Disk → Option FileIdentity → ℕ → List ℕ
+rest_of start file n = drop n (octets_if start file)
 
 -- a line by the file that its name led to at the start, how many octets it gave, which it took, and how often it failed: of a recorded line the
 -- octets to come are known, of one that is made those that were written
 abbrev pub line_of : Disk → Side → Option FileIdentity → ℕ → List ℕ → ℕ → LineState
-line_of start Up file gave took faults = record { to_come = rest_of start file gave; written = None; faults = faults }
-line_of start Pcm file gave took faults = record { to_come = rest_of start file gave; written = None; faults = faults }
+line_of start Up file gave took faults = record { to_come = Some (rest_of start file gave); written = None; faults = faults }
+line_of start Pcm file gave took faults = record { to_come = Some (rest_of start file gave); written = None; faults = faults }
 line_of start Down file gave took faults = record { to_come = None; written = Some took; faults = faults }
 line_of start Out file gave took faults = record { to_come = None; written = Some took; faults = faults }
 
@@ -99,6 +98,13 @@ IsAtStart honest start folder = disk_if honest folder ≡ start
 -- no line's counts of octets changed
 abbrev pub CountsStay : List FileLine → List FileLine → Type 0
 CountsStay old new = (k : ℕ) → ((line_at new k).read ≡ (line_at old k).read) × ((line_at new k).written ≡ (line_at old k).written)
+
+-- The file is that of a line that the program writes: it has exactly the octets that the line took, and the line took some or failed.
+pub record IsWrittenFor (now : Disk) (lines : List FileLine) (f : FileIdentity) (call : ℕ) (side : Side) : Type 0 where
+  pub made : IsMade side
+  pub leads : now.file_of (file_name call side) ≡ Some f
+  pub has : now.octets f ≡ taken_of now lines call side
+  pub used : (0 < length (taken_of now lines call side)) ⊎ (0 < (states_of lines call side).faults)
 
 -- the name of the line's file leads to a file with exactly these octets
 abbrev pub HasFile : Disk → ℕ → Side → List ℕ → Type 0

@@ -1,5 +1,5 @@
 -- What the files of an honest folder hold after reads and writes of lines (this project's profile).
-use Rattle.std.specs.Prelude.{◌≡◌, ◌≢◌, ◌⊎◌, ℕ, ◌<◌, ◌^◌, List, [], ◌++◌, length, take, drop, Option, Some, Result, Ok, Err, IfSome, IsSome, IsSomeAnd, slice_index_or}
+use Rattle.std.specs.Prelude.{◌≡◌, ◌≢◌, ◌⊎◌, ℕ, ◌<◌, ◌^◌, List, [], ◌++◌, length, take, drop, Option, None, Some, Result, Ok, Err, IfSome, IsSomeAnd, slice_index_or}
 use Rattle.trau_io.specs.declared.line.Failed.{Failed}
 use Rattle.trau_io.specs.declared.line.Side.{Side}
 use Rattle.trau_io.specs.Indices.{index_of_line}
@@ -31,9 +31,11 @@ pub record IsLine (start now : Disk) (claim : Option Claim) (name gave took : Li
   pub put : 0 < length took → IsSomeAnd claim (λ c. (c.access ≡ Writing) × (now.octets c.file ≡ took))
   pub written : IfSome claim (λ c. c.access ≡ Writing → HasTaken start now c.file took)
 
--- the files of a folder that was `start` at first, after the lines gave and took these octets
+-- the files of a folder that was `start` at first, after the lines gave and took these octets. A name that led to no file then leads at most to one
+-- that had no octets then
 pub record FilesHold (start now : Disk) (claims : List (Option Claim)) (given put : ℕ → Side → List ℕ) : Type 0 where
   pub names : KeepsNames start now
+  pub newly_led : (name : List ℕ) (f : FileIdentity) → start.file_of name ≡ None → now.file_of name ≡ Some f → start.octets f ≡ []
   pub unwritten : (f : FileIdentity) → IsUnwritten claims f → now.octets f ≡ start.octets f
   pub lines : (call : ℕ) (side : Side) → IsLine start now (claim_at claims (index_of_line call side)) (file_name call side) (given call side) (put call side)
 
@@ -79,18 +81,17 @@ contents_of start given put lines call side = record {
   faults = (states_of lines call side).faults;
 }
 
--- the line's file was there at the start, and wasn't written for the line
-abbrev pub IsOnlyRead : Disk → List (Option Claim) → ℕ → Side → Type 0
-IsOnlyRead start claims call side = IsSome (start.file_of (file_name call side))
-    × ((c : Claim) → claim_at claims (index_of_line call side) ≡ Some c → c.access ≡ Reading)
+-- no file was written for the line
+abbrev pub IsOnlyRead : List (Option Claim) → ℕ → Side → Type 0
+IsOnlyRead claims call side = (c : Claim) → claim_at claims (index_of_line call side) ≡ Some c → c.access ≡ Reading
 
 -- a read of a line keeps what an honest folder's files hold; the line has given these octets too. If the line was only read, it still is, and they
--- are its file's next
+-- are its file's next; a line without a file at the start gives none
 pub record ReadKeeps {D F : Type 0} {does : Operations D F} (honest : IsHonest does) (start : Disk) (given given' put : ℕ → Side → List ℕ) (old new : TrunkFiles D F)
     (call : ℕ) (side : Side) (result : Result ℕ Failed) (buf : List ℕ) : Type 0 where
   pub holds : Holds honest start given' put new
-  pub only : IsOnlyRead start old.files.claims call side → IsOnlyRead start new.files.claims call side
-  pub this : IsOnlyRead start old.files.claims call side →
+  pub only : IsOnlyRead old.files.claims call side → IsOnlyRead new.files.claims call side
+  pub this : IsOnlyRead old.files.claims call side →
       Reads (contents_of start given put old.lines call side) (contents_of start given' put new.lines call side) result buf
   pub others : OthersStay (contents_of start given put old.lines) (contents_of start given' put new.lines) call side
 
@@ -118,9 +119,9 @@ WritesHold does old new call side result bytes =
     (honest : IsHonest does) (start : Disk) (given put put' : ℕ → Side → List ℕ) → Gains put put' call side (moved result bytes) →
     Holds honest start given put old → WriteKeeps honest start given put put' old new call side result bytes
 
--- each line that was only read gave octets of its file as it was at the start: consecutive, from the first on
+-- each line that was only read gave octets of its file as it was at the start: consecutive, from the first on; none if there was no file
 abbrev pub GaveTheirFiles : Disk → List (Option Claim) → (ℕ → Side → List ℕ) → Type 0
-GaveTheirFiles start claims given = (call : ℕ) (side : Side) → IsOnlyRead start claims call side →
+GaveTheirFiles start claims given = (call : ℕ) (side : Side) → IsOnlyRead claims call side →
     given call side ≡ take (length (given call side)) (octets_if start (start.file_of (file_name call side)))
 
 -- the file of each line that took octets has these octets, and no others

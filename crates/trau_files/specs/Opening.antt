@@ -46,7 +46,7 @@ pub record IsSeen {D F : Type 0} (does : Operations D F) (old new : D) (call : �
   pub told : does.told file (Ok metadata)
 
 -- a line's file was opened and has these metadata; one of a disk was noted for the line, and no other note changed; of another file no note changed.
--- No file that is written for one line is another line's; one that is to be written is no recording by another name
+-- No file that is written for one line is another line's; one that is to be written is no recording by another name, also if it was made now
 pub record IsClaimed {D F : Type 0} (does : Operations D F) (old new : D) (old_claims new_claims : List (Option Claim)) (call : ℕ) (side : Side)
     (access : Access) (at : ℕ) (file : F) (metadata : Metadata) : Type 0 where
   pub made : Bool
@@ -55,7 +55,7 @@ pub record IsClaimed {D F : Type 0} (does : Operations D F) (old new : D) (old_c
   pub identified : does.identified metadata identity
   pub noted : NotesFile old_claims new_claims (index_of_line call side) metadata (record { file = identity; access = access })
   pub apart : AreApart new_claims
-  pub free : access ≡ Writing → IsFile (file_type metadata) → IsFree does new call side metadata identity
+  pub free : access ≡ Writing → IsFile (file_type metadata) → IsFree does new call side metadata made identity
 
 -- this open file is the line's: it was opened by the line's name, noted for the line if it is on a disk, and goes on at this octet
 pub record IsOpened {D F : Type 0} (does : Operations D F) (old new : D) (old_claims new_claims : List (Option Claim)) (call : ℕ) (side : Side)

@@ -1,5 +1,5 @@
 -- Which files the incoming lines have, opened or not, so that no line is written to a recording by another name (this project's profile).
-use Rattle.std.specs.Prelude.{◌≡◌, ◌≢◌, ◌⊎◌, ℕ, ◌<◌, ◌≤◌, List, Option, None, Some, Ok, Err, slice_index_or}
+use Rattle.std.specs.Prelude.{◌≡◌, ◌≢◌, ◌⊎◌, ℕ, ◌<◌, ◌≤◌, Bool, true, false, List, Option, None, Some, Ok, Err, slice_index_or}
 use Rattle.std.specs.Fs.{IsSymlink, file_type}
 use Rattle.std.specs.declared.fs.attrs.Metadata.{Metadata}
 use Rattle.std.specs.declared.io.Error.{Error}
@@ -30,19 +30,24 @@ pub record IsRecording {D F : Type 0} (does : Operations D F) (index : ℕ) (fil
   pub place : index ≡ index_of_line call side
   pub led : LedTo does (file_name call side) file
 
--- asked for the file that a name leads to, the folder named none
-pub record LedNowhere {D F : Type 0} (does : Operations D F) (name : List ℕ) : Type 0 where
-  pub folder : D
-  pub error : Error
-  pub described : does.described folder name (Err error)
+-- asked for the file that a name leads to, the folder names none as it is
+abbrev pub LeadsNowhere : {D F : Type 0} → Operations D F → D → List ℕ → Type 0
+LeadsNowhere does folder name = (error : Error) × does.described folder name (Err error)
 
--- a name led to no file, or to another than this one
-abbrev pub LedElsewhere : {D F : Type 0} → Operations D F → List ℕ → FileIdentity → Type 0
-LedElsewhere does name file = LedNowhere does name ⊎ ((other : FileIdentity) × LedTo does name other × (other ≢ file))
+-- at some time it named none
+abbrev pub LedNowhere : {D F : Type 0} → Operations D F → List ℕ → Type 0
+LedNowhere {D = D} does name = (folder : D) × LeadsNowhere does folder name
 
--- the name of each incoming line was looked up, and didn't lead to this file
-abbrev pub IsNoRecording : {D F : Type 0} → Operations D F → FileIdentity → Type 0
-IsNoRecording does file = (call : ℕ) (side : Side) → IsIncoming call side → LedElsewhere does (file_name call side) file
+-- how a name is known to lead to no file: if a file was made just now, the folder was asked as it is since, for the name may lead there; otherwise
+-- it was asked at some time
+abbrev pub IsMissing : {D F : Type 0} → Operations D F → D → Bool → List ℕ → Type 0
+IsMissing does folder true name = LeadsNowhere does folder name
+IsMissing does folder false name = LedNowhere does name
+
+-- the name of each incoming line was looked up, and led to no file or to another than this one, which was made just now or not
+abbrev pub IsNoRecording : {D F : Type 0} → Operations D F → D → Bool → FileIdentity → Type 0
+IsNoRecording does folder made file = (call : ℕ) (side : Side) → IsIncoming call side →
+    IsMissing does folder made (file_name call side) ⊎ ((other : FileIdentity) × LedTo does (file_name call side) other × (other ≢ file))
 
 -- a line's file, which has these metadata, has no name beside the line's, which is no symbolic link
 pub record HasOneName {D F : Type 0} (does : Operations D F) (folder : D) (call : ℕ) (side : Side) (metadata : Metadata) : Type 0 where
@@ -54,8 +59,8 @@ pub record HasOneName {D F : Type 0} (does : Operations D F) (folder : D) (call 
   pub plain : IsSymlink (file_type entry) → ⊥
 
 -- a file that a line is to write is no recording by another name: it has one name, or no incoming line's name led to it
-abbrev pub IsFree : {D F : Type 0} → Operations D F → D → ℕ → Side → Metadata → FileIdentity → Type 0
-IsFree does folder call side metadata file = HasOneName does folder call side metadata ⊎ IsNoRecording does file
+abbrev pub IsFree : {D F : Type 0} → Operations D F → D → ℕ → Side → Metadata → Bool → FileIdentity → Type 0
+IsFree does folder call side metadata made file = HasOneName does folder call side metadata ⊎ IsNoRecording does folder made file
 
 -- the file that is noted for the line with this index, if one is
 abbrev pub noted_at : List (Option FileIdentity) → ℕ → Option FileIdentity
@@ -65,7 +70,7 @@ noted_at files k = slice_index_or files k None
 abbrev pub AreRecordings : {D F : Type 0} → Operations D F → List (Option FileIdentity) → Type 0
 AreRecordings does files = (k : ℕ) (file : FileIdentity) → noted_at files k ≡ Some file → IsRecording does k file
 
--- each incoming line of a call below this one was looked up: if no file is noted for it, its name led nowhere
-abbrev pub AreSearched : {D F : Type 0} → Operations D F → List (Option FileIdentity) → ℕ → Type 0
-AreSearched does files below = (call : ℕ) (side : Side) → IsIncoming call side → call < below → noted_at files (index_of_line call side) ≡ None →
-    LedNowhere does (file_name call side)
+-- each incoming line of a call below this one was looked up: if no file is noted for it, its name is known to lead to none
+abbrev pub AreSearched : (List ℕ → Type 0) → List (Option FileIdentity) → ℕ → Type 0
+AreSearched Missing files below = (call : ℕ) (side : Side) → IsIncoming call side → call < below → noted_at files (index_of_line call side) ≡ None →
+    Missing (file_name call side)

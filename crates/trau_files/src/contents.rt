@@ -1,14 +1,15 @@
 //! All lines over an honest folder, with the octets of their files.
 
-ghost use Rattle.std.specs.Prelude.{◌≡◌, ◌<◌, length, IsTrue, false, IfOk};
+ghost use Rattle.std.specs.Prelude.{◌≡◌, ◌<◌, length, IsTrue, false, IfOk, IfErr, IfSome, slice_get};
+ghost use Rattle.trau_io.specs.Indices.{index_of_line};
 ghost use Rattle.trau_io.specs.Lines.{Reads, Writes, OthersStay};
 ghost use Rattle.trau_files.specs.Contents.{IsAtStart, IsMade, IsRecorded, KnowsIf, contents_if, first_if};
 ghost use Rattle.trau_files.specs.Disk.{Disk};
-ghost use Rattle.trau_files.specs.Trunk.{TrunkFiles};
+ghost use Rattle.trau_files.specs.Trunk.{TrunkFiles, TrunkReads, TrunkWrites};
 
 use crate::folder::Folder;
 use crate::trunk::FileTrunk;
-use std::alloc::{AllocError, Global};
+use std::alloc::Global;
 use std::marker::{Brand, Model, PhantomData};
 use trau_io::{Failed, Line, Side, Trunk};
 
@@ -40,11 +41,13 @@ impl<D: Folder + Drop, K: AtStart> Model for Contents<D, K> {
 }
 
 impl<D: Folder + Drop, K: AtStart> Contents<D, K> {
-    /// All lines before their first operation. No file is touched yet.
-    pub fn new(alloc: Global, folder: D) -> Result<Contents<D, K>, AllocError>
+    /// All lines before their first operation. No file is touched yet. The error is the folder, if there is no memory for the tables
+    /// of the lines.
+    pub fn new(alloc: Global, folder: D) -> Result<Contents<D, K>, D>
         requires { IsAtStart D.honest K.start folder }
         ensures lines { IfOk result (λ t. contents_if D.honest K.start t ≡ first_if D.honest K.start) }
         ensures untouched { IfOk result (λ t. t.files.folder ≡ folder) }
+        ensures returned { IfErr result (λ back. back ≡ folder) }
     {
         Ok(Contents {
             trunk: FileTrunk::new(alloc, folder)?,
@@ -79,6 +82,9 @@ impl<D: Folder + Eprint + Drop, K: AtStart> Trunk for Contents<D, K> {
         requires { 0 < length buf.old }
         ensures this { Reads (contents_if D.honest K.start self.old line.call line.side) (contents_if D.honest K.start self.new line.call line.side) result buf.new }
         ensures others { OthersStay (contents_if D.honest K.start self.old) (contents_if D.honest K.start self.new) line.call line.side }
+
+        // It is a read of the line's file, whatever is known of the folder.
+        ensures passes { IfSome (slice_get self.old.lines (index_of_line line.call line.side)) (λ l. TrunkReads D.does self.old self.new line.call line.side l result buf.new) }
     {
         self.trunk.read(line, buf)
     }
@@ -87,6 +93,10 @@ impl<D: Folder + Eprint + Drop, K: AtStart> Trunk for Contents<D, K> {
         requires { 0 < length bytes.now }
         ensures this { Writes (contents_if D.honest K.start self.old line.call line.side) (contents_if D.honest K.start self.new line.call line.side) result bytes.now }
         ensures others { OthersStay (contents_if D.honest K.start self.old) (contents_if D.honest K.start self.new) line.call line.side }
+
+        // It is a write of the line's file, but for a recorded line.
+        ensures passes { IsMade line.side → IfSome (slice_get self.old.lines (index_of_line line.call line.side))
+            (λ l. TrunkWrites D.does self.old self.new line.call line.side l result bytes.now) }
     {
         if is_recorded(line) {
             return Err(self.trunk.refuse(line));

@@ -1,6 +1,6 @@
 //! The lines as files of the current folder: `7.up`, `7.pcm`, `7.down` and `7.out` of call 7.
 
-ghost use Rattle.std.specs.Prelude.{◌≡◌, ◌<◌, ℕ, List, None, Err, All, vec_len, length, slice_get, IfSome, IfOk};
+ghost use Rattle.std.specs.Prelude.{◌≡◌, ◌<◌, ℕ, List, None, Err, All, vec_len, length, slice_get, IfSome, IfOk, IfErr};
 ghost use Rattle.trau_io.specs.Lines.{Reads, Writes, OthersStay};
 ghost use Rattle.trau_io.specs.Indices.{index_of_line};
 ghost use Rattle.trau_io.specs.declared.line_table.TheConstants.{LINE_INDICES};
@@ -22,7 +22,7 @@ use crate::folder::Folder;
 pub use claims::FileIdentity;
 use file::LineFile;
 use open::LineFiles;
-use std::alloc::{AllocError, Global};
+use std::alloc::Global;
 use std::marker::Model;
 use trau_io::{Failed, LINE_INDICES, Line, Trunk, line_index};
 
@@ -53,8 +53,9 @@ impl<D: Folder + Drop> Model for FileTrunk<D> {
 }
 
 impl<D: Folder + Drop> FileTrunk<D> {
-    /// All lines before their first operation. No file is touched yet.
-    pub fn new(alloc: Global, folder: D) -> Result<FileTrunk<D>, AllocError>
+    /// All lines before their first operation. No file is touched yet. The error is the folder, if there is no memory for the tables
+    /// of the lines.
+    pub fn new(alloc: Global, folder: D) -> Result<FileTrunk<D>, D>
         ensures number { IfOk result (λ t. length t.lines ≡ LINE_INDICES) }
         ensures each { IfOk result (λ t. All (λ l. l ≡ record { read = 0; written = 0; faults = 0 }) t.lines) }
         ensures seats { IfOk result (λ t. length t.files.seats ≡ 256) }
@@ -63,8 +64,11 @@ impl<D: Folder + Drop> FileTrunk<D> {
         ensures next { IfOk result (λ t. (t.files.next ≡ 0) × (t.files.last ≡ 255)) }
         ensures untouched { IfOk result (λ t. t.files.folder ≡ folder) }
         ensures honest { IfOk result (HoldsAtFirst D.does folder) }
+        ensures returned { IfErr result (λ back. back ≡ folder) }
     {
-        let mut lines = Vec::with_capacity(alloc, LINE_INDICES)?;
+        let Ok(mut lines) = Vec::with_capacity(alloc, LINE_INDICES) else {
+            return Err(folder);
+        };
         for _ in 0..LINE_INDICES {
             lines.push_reserved(LineFile::new());
         }

@@ -77,7 +77,9 @@ fn run<
     O: Write + Drop,
 >(rt: &R, desk: &mut StdDesk<I, O>) -> Result<u8, Refusal> {
     let words = words_given(rt)?;
-    let (status, files) = files_top(rt, rt.alloc(), &words, rt, desk, &OpenGate)?;
+    let Ok((status, files)) = files_top(rt, rt.alloc(), &words, rt, desk, &OpenGate) else {
+        return Err(Refusal::NoMemory);
+    };
     files.tell_rest();
     Ok(status)
 }

@@ -93,7 +93,7 @@ impl<D: Folder> Claims<D> {
             × (IsTaken self.old (index_of_line line.call line.side) claim other
             ⊎ ((claim.access ≡ Writing) × IsRecording D.does other claim.file))) }
         ensures free { IfOk result (λ _. claim.access ≡ Writing → IsFile (file_type metadata.now) →
-            IsFree D.does folder.now line.call line.side metadata.now claim.file) }
+            IsFree D.does folder.now line.call line.side metadata.now is_new claim.file) }
         ensures apart { AreApart self.new }
         ensures others { OthersKeep self.old self.new (index_of_line line.call line.side) }
     {
@@ -126,7 +126,7 @@ impl<D: Folder> Claims<D> {
     ) -> Option<usize>
         ensures same { self.new ≡ self.old }
         ensures found { IfSome result (λ other. (claim.access ≡ Writing) × IsRecording D.does other claim.file) }
-        ensures free { result ≡ None → claim.access ≡ Writing → IsFree D.does folder.now line.call line.side metadata.now claim.file }
+        ensures free { result ≡ None → claim.access ≡ Writing → IsFree D.does folder.now line.call line.side metadata.now is_new claim.file }
     {
         if claim.access == Access::Writing && is_linked(folder, line, metadata) {
             self.recordings.place_of(folder, claim.file, is_new)

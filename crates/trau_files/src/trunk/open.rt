@@ -16,7 +16,7 @@ use super::fault::{Fault, Reasons};
 use super::name::name_of;
 use super::seats::{Access, NextSeat, OpenFile, Seats};
 use crate::folder::Folder;
-use std::alloc::{AllocError, Global};
+use std::alloc::Global;
 use std::fs::{Metadata, OpenOptions};
 use std::io;
 use std::io::ErrorKind;
@@ -51,17 +51,22 @@ impl<D: Folder + Drop> Model for LineFiles<D> {
 }
 
 impl<D: Folder + Drop> LineFiles<D> {
-    /// No file is open yet.
-    pub fn new(alloc: Global, folder: D) -> Result<LineFiles<D>, AllocError>
+    /// No file is open yet. The error is the folder, if there is no memory for its tables.
+    pub fn new(alloc: Global, folder: D) -> Result<LineFiles<D>, D>
         ensures number { IfOk result (λ f. length f.seats ≡ 256) }
         ensures closed { IfOk result (λ f. All (λ seat. seat ≡ None) f.seats) }
         ensures unclaimed { IfOk result (λ f. All (λ claim. claim ≡ None) f.claims) }
         ensures apart { IfOk result (λ f. AreApart f.claims) }
         ensures next { IfOk result (λ f. (f.next ≡ 0) × (f.last ≡ 255)) }
         ensures untouched { IfOk result (λ f. f.folder ≡ folder) }
+        ensures returned { IfErr result (λ back. back ≡ folder) }
     {
-        let claims = Claims::new(alloc)?;
-        let seats = Seats::new(alloc)?;
+        let Ok(claims) = Claims::new(alloc) else {
+            return Err(folder);
+        };
+        let Ok(seats) = Seats::new(alloc) else {
+            return Err(folder);
+        };
         Ok(LineFiles {
             folder,
             seats,

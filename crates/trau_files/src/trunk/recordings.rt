@@ -4,7 +4,7 @@ ghost use Rattle.std.specs.Prelude.{◌≡◌, ◌≢◌, ◌+◌, ℕ, IfSome, 
 ghost use Rattle.call_number.specs.declared.TheConstants.{LAST_CALL};
 ghost use Rattle.trau_io.specs.Indices.{index_of_line};
 ghost use Rattle.trau_files.specs.Files.{file_name};
-ghost use Rattle.trau_files.specs.Recordings.{AreRecordings, AreSearched, IsIncoming, IsNoRecording, IsRecording, LedNowhere, noted_at};
+ghost use Rattle.trau_files.specs.Recordings.{AreRecordings, AreSearched, IsIncoming, IsMissing, IsNoRecording, IsRecording, LeadsNowhere, noted_at};
 
 use super::claims::FileIdentity;
 use super::name::name_of;
@@ -27,14 +27,14 @@ impl<D: Folder> Model for Recordings<D> {
     ghost use Rattle.call_number.specs.declared.TheConstants.{LAST_CALL};
     ghost use Rattle.trau_io.specs.declared.line_table.TheConstants.{LINE_INDICES};
     ghost use Rattle.trau_files.specs.declared.trunk.claims.FileIdentity.{FileIdentity};
-    ghost use Rattle.trau_files.specs.Recordings.{AreRecordings, AreSearched};
+    ghost use Rattle.trau_files.specs.Recordings.{AreRecordings, AreSearched, LedNowhere};
 
     ghost Value = { List (Option FileIdentity) };
 
     ghost view = { λ r. r.of_lines.items };
 
     ghost invariant = { λ r. (vec_len r.of_lines ≡ LINE_INDICES) × AreRecordings D.does r.of_lines.items
-        × (r.is_searched ≡ true → AreSearched D.does r.of_lines.items (LAST_CALL + 1)) };
+        × (r.is_searched ≡ true → AreSearched (LedNowhere D.does) r.of_lines.items (LAST_CALL + 1)) };
 }
 
 impl<D: Folder> Recordings<D> {
@@ -52,7 +52,7 @@ impl<D: Folder> Recordings<D> {
     /// that had none, so the folder is searched again.
     pub fn place_of(&mut self, folder: &D, file: FileIdentity, is_new: bool) -> Option<usize>
         ensures found { IfSome result (λ other. IsRecording D.does other file) }
-        ensures none { result ≡ None → IsNoRecording D.does file }
+        ensures none { result ≡ None → IsNoRecording D.does folder.now is_new file }
     {
         self.refresh(folder, is_new);
         self.position(file)
@@ -84,7 +84,7 @@ impl<D: Folder> Recordings<D> {
     // Searches the folder, unless that was done before and no file was made since.
     fn refresh(&mut self, folder: &D, is_new: bool)
         ensures recordings { AreRecordings D.does self.new }
-        ensures searched { AreSearched D.does self.new (LAST_CALL + 1) }
+        ensures searched { AreSearched (IsMissing D.does folder.now is_new) self.new (LAST_CALL + 1) }
     {
         if is_new || !self.is_searched {
             self.search(folder);
@@ -94,7 +94,7 @@ impl<D: Folder> Recordings<D> {
     // Up and Pcm of each call, unless their files are known.
     fn search(&mut self, folder: &D)
         ensures recordings { AreRecordings D.does self.new }
-        ensures searched { AreSearched D.does self.new (LAST_CALL + 1) }
+        ensures searched { AreSearched (LeadsNowhere D.does folder.now) self.new (LAST_CALL + 1) }
     {
         for call in 1..=LAST_CALL {
             self.note(folder, call, Side::Up);
@@ -107,7 +107,7 @@ impl<D: Folder> Recordings<D> {
     fn note(&mut self, folder: &D, call: u32, side: Side)
         requires { IsIncoming call side }
         ensures recordings { AreRecordings D.does self.new }
-        ensures looked { noted_at self.new (index_of_line call side) ≡ None → LedNowhere D.does (file_name call side) }
+        ensures looked { noted_at self.new (index_of_line call side) ≡ None → LeadsNowhere D.does folder.now (file_name call side) }
         ensures others { (k : ℕ) → k ≢ index_of_line call side → noted_at self.new k ≡ noted_at self.old k }
     {
         let line = Line { call, side };
