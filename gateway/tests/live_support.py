@@ -17,7 +17,7 @@ import unittest
 from pathlib import Path
 from typing import Any, Callable, Dict, Iterable, Iterator, List, Optional, Tuple
 
-from support import GATEWAY, LINE, SPEECH, InFolder, repeated
+from support import GATEWAY, LINE, PUMP, SPEECH, InFolder, repeated
 
 from trau.gateway.rtp import ALAW, GSM, MULAW
 from spoiler import CLEAN, Faults, Sent, schedule
@@ -118,6 +118,7 @@ class Live:
             str(folder),
             "--address",
             address,
+            *(("--pump",) if PUMP else ()),
             *words,
         ]
         pipe, limit = subprocess.PIPE, limited(file_limit, descriptor_limit)
@@ -144,15 +145,25 @@ class Live:
                 self.finish()
                 raise Ended(f"it ended with {self.process.returncode}: {self.said}")
 
+    def wait_until_said(self, beginning: str) -> str:
+        """The line that begins so, which it says or has said, perhaps before a reply."""
+        said = (line for line in self.said if line.startswith(beginning))
+        return next(said, "") or self.wait_for(beginning)
+
     def ask(self, line: str) -> str:
         """Its reply to a line, which is asked again while the gateway is late."""
         while True:
             self.process.stdin.write(f"{line}\n")
-            said = self.read()
-            while said and not said.startswith(("ok ", "refused ")):
-                said = self.read()
+            said = self.wait_for_reply()
             if "behind its clock" not in said:
                 return said
+
+    def wait_for_reply(self) -> str:
+        """Its next reply to a line; empty at its end."""
+        said = self.read()
+        while said and not said.startswith(("ok ", "refused ")):
+            said = self.read()
+        return said
 
     def open(self, call: int, words: str = "") -> Peers:
         """Opens a call. (Somebody may have taken a port in the meantime.)"""

@@ -6,12 +6,13 @@ import contextlib
 import heapq
 import io
 import os
+import socket
 import sys
 import tempfile
 import unittest
 from collections import defaultdict
 from pathlib import Path
-from typing import Callable, Dict, Iterable, List, Tuple
+from typing import Callable, Dict, Iterable, List, Optional, Tuple
 
 GATEWAY = Path(__file__).resolve().parents[1]
 TOP = GATEWAY.parent
@@ -21,7 +22,9 @@ from trau import trau_fr
 from trau.gateway.clock import Clock
 from trau.gateway.incoming import Incoming
 from trau.gateway.live import Commands, Gateway, Speaker
+from trau.gateway import pump
 from trau.gateway.network import Endpoint
+from trau.gateway.pump import NAMES, PumpBoard
 from trau.gateway.recorder import Recorder
 from trau.gateway.rtcp import Reports
 from trau.gateway.settings import Address, Side
@@ -31,6 +34,9 @@ from trau.gateway.switchboard import Switchboard
 # The program that replays; ./trau alone would prove and build one.
 PROGRAM = os.environ.get("TRAU_PROGRAM")
 with_program = unittest.skipUnless(PROGRAM, "TRAU_PROGRAM names no program")
+# The library of the loop in C; without it, calls are processed in Python.
+PUMP = os.environ.get("TRAU_PUMP")
+in_python = unittest.skipIf(PUMP, "the loop in C has no such part")
 
 FRAMES = 33
 PERIOD = 160
@@ -85,6 +91,8 @@ class TurnedEndpoint(Endpoint):
 class TurnedNetwork:
     """Packets that come at given times, to endpoints by their ports."""
 
+    Endpoint = TurnedEndpoint
+
     def __init__(self, clock: TurnedClock) -> None:
         self.clock = clock
         self.phases: Dict[int, int] = {}
@@ -101,7 +109,7 @@ class TurnedNetwork:
     def open(self, side: Side, is_strict: bool, incoming: Incoming, phase: int) -> TurnedEndpoint:
         """As Network.open."""
         self.endpoints[side.port], self.phases[side.port] = (
-            TurnedEndpoint(side, is_strict, incoming),
+            self.Endpoint(side, is_strict, incoming),
             phase,
         )
         return self.endpoints[side.port]
@@ -129,6 +137,94 @@ class TurnedNetwork:
             while queue and queue[0][0] <= self.clock.time:
                 _, _, packet, sender = heapq.heappop(queue)
                 self.endpoints[port].arrived(packet, sender, tick, behind)
+
+
+class LoopEndpoint(TurnedEndpoint):
+    """An endpoint of the loop in C: what it sends comes out of a socket."""
+
+    def __init__(self, side: Side, is_strict: bool, incoming: Incoming) -> None:
+        super().__init__(side, is_strict, incoming)
+        self.socket, self.far = socket.socketpair(socket.AF_UNIX, socket.SOCK_DGRAM)
+        for each in (self.socket, self.far):
+            each.setblocking(False)
+        self.is_connected = True
+
+    def drain(self) -> None:
+        """Takes what was sent."""
+        with contextlib.suppress(BlockingIOError):
+            while True:
+                self.sent.append(self.far.recv(2048))
+
+    def close(self) -> None:
+        """Closes both sockets."""
+        self.socket.close()
+        self.far.close()
+
+
+class LoopNetwork(TurnedNetwork):
+    """Packets that come at given times, to the loop."""
+
+    Endpoint = LoopEndpoint
+    board: "LoopBoard"
+
+    def close(self, endpoint: LoopEndpoint, phase: int) -> None:
+        """As TurnedNetwork.close. The phases are the loop's own."""
+        endpoint.drain()
+        endpoint.close()
+        del self.phases[endpoint.address]
+
+    def drop(self) -> None:
+        """What came up to now is old."""
+        for port in self.phases:
+            self.bring_to(port, self.board.tick, 1)
+
+    def read(self, phase: int, tick: int, behind: int) -> None:
+        """As TurnedNetwork.read, for the calls that the loop has in this phase."""
+        for connection in list(self.board.by_slot.values()):
+            for endpoint in connection.endpoints.values():
+                endpoint.drain()
+                if connection.phase == phase:
+                    self.bring_to(endpoint.address, tick, behind)
+
+    def bring_to(self, port: int, tick: int, behind: int) -> None:
+        """Gives the loop what came to a port."""
+        queue, (slot, side) = self.coming[port], self.board.place_of(port)
+        pump = self.board.pump
+        while queue and queue[0][0] <= self.clock.time:
+            _, _, packet, (host, far) = heapq.heappop(queue)
+            address = int.from_bytes(socket.inet_aton(host), sys.byteorder), socket.htons(far)
+            pump.library.pump_arrived(
+                pump.pump, slot, side, packet, len(packet), *address, tick, behind
+            )
+
+
+class LoopBoard(PumpBoard):
+    """The switchboard over the loop in C, which the test turns."""
+
+    tick = 0
+
+    def give_up(self, periods: int, period: int) -> None:
+        """As PumpBoard.give_up."""
+        self.tick = period
+        super().give_up(periods, period)
+
+    def end_recordings(self, period: Optional[int]) -> bool:
+        """As PumpBoard.end_recordings; calls that a fault has left open have no sockets then."""
+        left = [each for each in self.by_slot.values()]
+        is_whole = super().end_recordings(period)
+        for connection in left:
+            for endpoint in connection.endpoints.values():
+                endpoint.close()
+        return is_whole
+
+    def place_of(self, port: int) -> Tuple[int, int]:
+        """The slot and the side of a port."""
+        return next(
+            (slot, NAMES.index(side))
+            for slot, connection in self.by_slot.items()
+            for side, endpoint in connection.endpoints.items()
+            if endpoint.address == port
+        )
 
 
 class GivenCommands(Commands):
@@ -173,10 +269,12 @@ class Turned:
     def __init__(self, folder: Path, every: int = 1) -> None:
         self.say = Kept()
         self.time = TurnedClock()
-        self.network = TurnedNetwork(self.time)
+        self.network = LoopNetwork(self.time) if PUMP else TurnedNetwork(self.time)
         self.recorder = Recorder(folder, every, self.say)
         self.recorder.make()
-        self.board = Switchboard(self.network, self.recorder, 100, self.say)
+        parts = self.network, self.recorder, 100, self.say
+        self.board = LoopBoard(*parts, pump.load(Path(PUMP))) if PUMP else Switchboard(*parts)
+        self.network.board = self.board
 
     def bring(
         self, call: int, from_station: Iterable[Sent] = (), from_exchange: Iterable[Sent] = ()

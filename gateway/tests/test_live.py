@@ -56,6 +56,30 @@ class Starts(WithLive):
             )
             self.assertIn("0 dtx 7 on\n", (live.folder / "orders.txt").read_text())
 
+    def test_a_file_that_closes_a_call(self):
+        peers = Peers()
+        self.addCleanup(peers.close)
+        for turn in range(20):
+            lines = self.folder / "calls.txt"
+            line = peers.line(7, "")
+            lines.write_text(f"{line}\nclose 7\n{line}\n")
+            with contextlib.suppress(Ended):
+                live = self.live(self.folder / f"rec-{turn}", "--calls", str(lines))
+                break
+        self.assertRegex(live.ask("level 7 300"), r"^ok \d+ level 7$")
+        self.assertEqual(live.end(), 0)
+        self.assertRegex(live.said[-2], r"^call 7 from 0 to \d+ ")
+
+    def test_a_call_begins_at_its_order(self):
+        live = self.live(self.folder / "rec")
+        live.open(3)
+        opened = [line.split() for line in live.said if line.startswith("ok ")][-1][1]
+        self.assertEqual(live.end(), 0)
+        self.assertRegex(live.said[-2], rf"^call 3 from {opened} to ")
+        self.assertEqual(
+            (live.folder / "orders.txt").read_text().split()[:3], [opened, "open", "3"]
+        )
+
     def refused(self, lines):
         """What is said of a file with these lines, of which one is refused."""
         (self.folder / "calls.txt").write_text(lines)
@@ -221,7 +245,7 @@ class Calls(WithLive):
         live = self.live(self.folder / "rec", file_limit=160 * 40 + 7)
         rows = [row for call in (1, 2) for row in talk(live.open(call), call, 400)]
         with playing(rows):
-            live.wait_for(f"recording {live.folder} ended: ")
+            live.wait_until_said(f"recording {live.folder} ended: ")
             self.assertRegex(live.ask("level 1 300"), "^ok ")
             self.assertRegex(live.ask("close 2"), "^ok ")
             self.assertEqual(live.end(), 1)
@@ -229,6 +253,25 @@ class Calls(WithLive):
         self.assertRegex(
             lines[0], r"^cut at period \d+, \d+ recorded periods of calls not compared$"
         )
+
+    def test_lines_that_come_at_once(self):
+        live = self.live(self.folder / "rec", "--every", "1")
+        rows = [row for call in (1, 2) for row in talk(live.open(call), call, 400)]
+        (gsm, pcm), peers = live.peers[1].ports, (live.peers[1].gsm, live.peers[1].pcm)
+        one, other = (f"{LOOPBACK}:{each.getsockname()[1]}" for each in peers)
+        opening = f"open 1 gsm {gsm} {one} pcm {pcm} {other}"  # with the same ports
+        lines = ["bridge 1 2", "unbridge 1", "bridge 1 2", "close 1", opening, "counts 2"]
+        with playing(rows):
+            live.wait_for_periods(1, 20)
+            live.process.stdin.write("".join(f"{line}\n" for line in lines))
+            replies = [live.wait_for_reply() for _ in lines]
+            live.wait_for_periods(2, 60)
+        self.assertEqual(live.end(), 0)
+        said = [" ".join(reply.split()[::2][:2]) for reply in replies]
+        wanted = "ok bridge, ok unbridge, refused bridge, ok close, ok open, ok counts"
+        self.assertEqual(", ".join(said), wanted)
+        for name in ("rec", "rec-2"):
+            self.assert_replays(self.folder / name)
 
     def test_hostile_packets(self):
         live = self.live(self.folder / "rec")

@@ -23,7 +23,14 @@ from support import SPEECH, InFolder, TurnedClock
 from trau.gateway import recorder
 from trau.gateway import rtp
 from trau.gateway import switchboard
-from trau.gateway.calls import SILENCE, SOFT_BLOCK, idle_line, is_soft_frame, soft_octets
+from trau.gateway.calls import (
+    SILENCE,
+    SOFT_BLOCK,
+    idle_line,
+    is_soft_frame,
+    kinds_of,
+    soft_octets,
+)
 from trau.gateway.clock import PERIOD, Clock
 from trau.rules.profile import MOST_ORDERS
 from trau.command_line.words import Refusal
@@ -55,6 +62,12 @@ ONE = bytes(33)
 def is_loud(content):
     """No period is soft for this jitter buffer."""
     return False
+
+
+def at_once(period, *works):
+    """As Switchboard.when_done."""
+    for work in works:
+        work(period)
 
 
 def blocks_of(blocks):
@@ -698,7 +711,7 @@ class OpenLines(unittest.TestCase):
     def test_what_is_left_out(self):
         settings = read_open(self.LINE.split())
         self.assertEqual(
-            (settings.law, settings.level, settings.dtx, settings.prime, settings.strict),
+            (settings.law, settings.level, settings.dtx, settings.prime, settings.is_strict),
             ("alaw", 256, False, True, True),
         )
         self.assertEqual(settings.sides["pcm"], Side(6004, ("10.0.0.1", 6006)))
@@ -710,7 +723,23 @@ class OpenLines(unittest.TestCase):
         self.assertEqual(
             (settings.law, settings.level, settings.dtx, settings.depth), ("mulaw", 0, True, 5)
         )
-        self.assertEqual((settings.prime, settings.strict), (False, False))
+        self.assertEqual((settings.prime, settings.is_strict), (False, False))
+
+    def test_packets_of_any_address(self):
+        settings = read_open(f"{self.LINE} from any".split())
+        self.assertEqual((settings.is_strict, settings.sides["gsm"].is_any), (False, True))
+        for words in ("", "from peer", "strict off from peer", "from any from peer"):
+            settings = read_open(f"{self.LINE} {words}".split())
+            self.assertFalse(settings.sides["pcm"].is_any, words)
+
+    def test_payload_types(self):
+        for words, wanted in (
+            ("", (3, 8)),
+            ("mulaw", (3, 0)),
+            ("pcm-type 127 mulaw", (3, 127)),
+            ("gsm-type 96 pcm-type 97", (96, 97)),
+        ):
+            self.assertEqual(kinds_of(read_open(f"{self.LINE} {words}".split())), wanted)
 
     def test_the_addresses_of_both_networks(self):
         settings = read_open(
@@ -737,6 +766,12 @@ class OpenLines(unittest.TestCase):
             (f"{self.LINE} level 32768", "isn't 0 to 32,767"),
             (f"{self.LINE} dtx maybe", "isn't on or off"),
             (f"{self.LINE} loud", "the form is"),
+            (f"{self.LINE} from all", "isn't peer or any"),
+            (f"{self.LINE} strict on from any", "from any"),
+            (f"{self.LINE} from any strict on", "from any"),
+            (f"{self.LINE} gsm-type 95", "isn't 96 to 127"),
+            (f"{self.LINE} pcm-type 128", "isn't 96 to 127"),
+            (f"{self.LINE} pcm-type", "missing"),
         )
         for line, part in bad:
             with self.assertRaisesRegex(Refusal, part, msg=line):
@@ -756,6 +791,62 @@ class Endpoints(unittest.TestCase):
         self.assertEqual(
             (endpoint.incoming.counts["stranger"], len(endpoint.incoming.buffer.periods)), (2, 1)
         )
+
+    def arrivals(self, endpoint, rows):
+        """Packets that arrive, each with its tick, sender, source and number; where packets go then."""
+        for tick, sender, source, number in rows:
+            endpoint.arrived(header(3, number, 160 * number, source) + ONE, sender, tick, 0)
+            endpoint.incoming.buffer.take(tick)
+            yield endpoint.peer
+
+    def test_packets_go_where_two_of_the_peer_came_from(self):
+        endpoint = Endpoint(Side(6000, self.PEER, is_any=True), False, gsm_stream())
+        here, other = ("10.0.0.7", 4000), ("10.0.0.8", 5000)
+        rows = [(0, here, 5, 0), (1, other, 6, 9), (1, here, 5, 1), (2, other, 5, 2)]
+        went = list(self.arrivals(endpoint, rows))
+        self.assertEqual(went, [self.PEER, self.PEER, here, here])
+        self.assertEqual(endpoint.incoming.counts, {"stranger": 2, "moved": 1})
+
+    def test_another_sender_takes_over_once_its_source_stood_probation(self):
+        endpoint = Endpoint(Side(6000, self.PEER, is_any=True), False, gsm_stream())
+        here, other = ("10.0.0.7", 4000), ("10.0.0.8", 5000)
+        speaks = [(tick, here, 5, tick) for tick in range(5)]
+        rows = [(4 + KEEPS_PORT + k, other, 6, 9 + k) for k in range(4)]
+        late = [(4 + KEEPS_PORT + 4, here, 5, 5)]
+        went = list(self.arrivals(endpoint, [*speaks, *rows, *late]))
+        self.assertEqual(went, [self.PEER, *[here] * 6, *[other] * 3][: len(went)])
+        wanted = {"moved": 2, "probation": 1, "new-source": 1, "stranger": 1, "packets": 5}
+        self.assertEqual(+endpoint.incoming.counts, wanted)
+
+    def test_one_packet_moves_nothing(self):
+        endpoint = Endpoint(Side(6000, self.PEER, is_any=True), False, gsm_stream())
+        there, still = ("10.0.0.7", 4000), KEEPS_PORT
+        rows = [(still, there, 5, still), (2 * still, self.PEER, 5, 2 * still)]
+        rows += [(3 * still, there, 5, 3 * still), (4 * still, ("10.0.0.7", 4002), 5, 4 * still)]
+        self.assertEqual(set(self.arrivals(endpoint, [(0, self.PEER, 5, 0), *rows])), {self.PEER})
+
+    def test_without_the_option_packets_go_to_the_peer_of_the_line(self):
+        endpoint = Endpoint(Side(6000, self.PEER), False, gsm_stream())
+        rows = [(tick, (self.PEER[0], 7000), 5, tick) for tick in range(9)]
+        self.assertEqual(set(self.arrivals(endpoint, rows)), {self.PEER})
+
+    @with_loopback
+    def test_symmetric_rtp_and_rtcp(self):
+        with bound("127.0.0.2") as peer, bound("127.0.0.2") as control:
+            peer.settimeout(60)
+            control.settimeout(60)
+            network, endpoint, port, _ = self.opened(False, is_any=True)
+            for number in range(2):
+                peer.sendto(self.packet(number), ("127.0.0.1", port))
+            while not endpoint.incoming.counts["moved"]:
+                network.read(0, 0, 0)
+            endpoint.send(ONE)
+            self.assertEqual(peer.recv(100), ONE)
+            reports = Reports(rtp.Outgoing(rtp.GSM), endpoint.incoming.counts)
+            control.sendto(receiver_report(5, []), ("127.0.0.1", port + 1))
+            while not endpoint.incoming.counts["rtcp-sent"]:
+                endpoint.report(reports, 0)
+            self.assertEqual(control.recv(1500)[1], 201)
 
     def test_a_fault_is_counted_and_ends_nothing(self):
         endpoint = Endpoint(Side(6000, self.PEER), True, gsm_stream())
@@ -795,14 +886,14 @@ class Endpoints(unittest.TestCase):
                     unittest.mock.Mock(take=unittest.mock.Mock(side_effect=struct.error)), 0
                 )
 
-    def opened(self, is_strict, address=None, network=None):
+    def opened(self, is_strict, address=None, network=None, is_any=False):
         """A network with an endpoint more in phase 0, its port, and the peer's socket, if the peer has no
         other address."""
         peer, network = bound(), network or Network("127.0.0.1")
         self.addCleanup(peer.close)
         while True:
             with contextlib.suppress(OSError):  # somebody may have one of the two ports
-                side = Side(even_port(), address or peer.getsockname())
+                side = Side(even_port(), address or peer.getsockname(), is_any=is_any)
                 endpoint = network.open(side, is_strict, gsm_stream(), 0)
                 self.addCleanup(network.close, endpoint, 0)
                 return network, endpoint, side.port, peer
@@ -1201,7 +1292,7 @@ class Inputs(unittest.TestCase):
         self.assertIn("the last line has no end", said)
 
     def test_a_long_line_is_refused_whole(self):
-        said, board = [], unittest.mock.Mock()
+        said, board = [], unittest.mock.Mock(when_done=at_once)
         gateway = Gateway(board, Clock(), Commands(None), said.append)
         long = ("close 1" + " " * 1000, "close 1 #" + "x" * 1000, "close 1" + 300 * " \U0001d11e")
         lines, _ = self.lines("".join(f"{line}\n" for line in (*long, "close 2")).encode())
@@ -1282,7 +1373,7 @@ class Inputs(unittest.TestCase):
 
     def test_a_pipe_takes_each_reply_whole(self):
         said = []
-        board = unittest.mock.Mock()
+        board = unittest.mock.Mock(when_done=at_once)
         board.execute = lambda line, period: read_open(line.split()[1:])
         gateway = Gateway(board, Clock(), Commands(None), said.append)
         for letter in ("\U0001d11e", "\udce9"):

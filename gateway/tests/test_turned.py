@@ -10,7 +10,18 @@ import unittest
 import unittest.mock
 from pathlib import Path
 
-from support import LINE, SPEECH, InFolder, Turned, cut, open_line, ports_of, repeated, with_program
+from support import (
+    LINE,
+    SPEECH,
+    InFolder,
+    Turned,
+    cut,
+    in_python,
+    open_line,
+    ports_of,
+    repeated,
+    with_program,
+)
 
 from trau import trau_fr
 from trau.gateway.calls import SILENCE
@@ -704,6 +715,35 @@ class Recorded(InFolder):
         self.assertNotIn("missing", (self.folder / "rec/events.txt").read_text())
 
 
+class Types(InFolder):
+    @with_program
+    def test_payload_types_of_the_line_open(self):
+        turned = Turned(self.folder / "rec")
+        turned.bring(1, schedule(SPEECH[:60], 96, 1), schedule(LINE[:60], 120, 2))
+        turned.bring(2, schedule(SPEECH[:60], GSM, 3), schedule(LINE[:60], ALAW, 4))
+        words = "gsm-type 96 pcm-type 120"
+        said = turned.run({0: [open_line(1, words), open_line(2, words)]}, 70)
+        sent = [{packet[1] & 127 for packet in packets} for packets in turned.sent(1)]
+        self.assertEqual(sent, [{96}, {120}])
+        self.assertIn(" speech 61 ", said[-2])
+        self.assertRegex(said[-1], "gsm-other-type 60 .*pcm-other-type 60 ")
+        self.assert_replays(self.folder / "rec")
+
+
+class Symmetric(InFolder):
+    @with_program
+    def test_a_peer_behind_an_address_translator(self):
+        turned, there = Turned(self.folder / "rec"), ("10.0.0.7", 4000)
+        gsm, pcm = ports_of(1)
+        turned.network.bring(gsm, there, schedule(SPEECH[:60], GSM, 1))
+        turned.network.bring(pcm, ("127.0.0.1", pcm + 1), schedule(LINE[:60], ALAW, 2))
+        said = turned.run({0: [open_line(1, "from any")], 40: ["counts 1"]}, 70)
+        ends = [turned.network.endpoints[port].peer for port in (gsm, pcm)]
+        self.assertEqual(ends, [there, ("127.0.0.1", pcm + 1)])
+        self.assertRegex(said[-3], " gsm-moved 1 gsm-packets 40 ")
+        self.assert_replays(self.folder / "rec")
+
+
 class Lines(InFolder):
     def test_refusals(self):
         turned = Turned(self.folder / "rec")
@@ -781,6 +821,7 @@ class Lines(InFolder):
         self.assertEqual(sum(line.startswith("call 1 from 0 to 50 ") for line in said), 1)
         self.assertNotIn("counts", (self.folder / "rec/orders.txt").read_text())
 
+    @in_python
     def test_a_fault_is_named(self):
         turned = Turned(self.folder / "rec")
         turned.bring(1, schedule(SPEECH[:30], GSM, 1), schedule(LINE[:30], ALAW, 2))

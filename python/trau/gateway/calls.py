@@ -61,6 +61,12 @@ def idle_line(law: str) -> bytes:
     return trau_fr.compress(bytes(2 * SAMPLES), law)
 
 
+def kinds_of(settings: Settings) -> Tuple[int, int]:
+    """The payload types of both sides: those of RFC 3551, if `open` gives no others."""
+    line = rtp.ALAW if settings.law == "alaw" else rtp.MULAW
+    return settings.types.get("gsm", rtp.GSM), settings.types.get("pcm", line)
+
+
 def buffers(settings: Settings) -> Tuple[Incoming, Incoming]:
     """The two incoming streams of a call, from the base station and from the exchange."""
     soft = soft_octets(settings.law)
@@ -68,8 +74,8 @@ def buffers(settings: Settings) -> Tuple[Incoming, Incoming]:
     from_exchange = JitterBuffer(
         settings.depth, idle_line(settings.law), lambda line: not line.translate(None, soft)
     )
-    kind = rtp.ALAW if settings.law == "alaw" else rtp.MULAW
-    return Incoming(rtp.GSM, OCTETS, from_station), Incoming(kind, 0, from_exchange)
+    gsm, pcm = kinds_of(settings)
+    return Incoming(gsm, OCTETS, from_station), Incoming(pcm, 0, from_exchange)
 
 
 class Stream(NamedTuple):
@@ -102,7 +108,7 @@ class LiveCall:
             trau_fr.Sender
         ] = None  # at home: in a bridge, in a quiet call, and at first
         self.gsm, self.pcm = buffers(settings)
-        self.to_gsm, self.to_pcm = rtp.Outgoing(rtp.GSM), rtp.Outgoing(self.pcm.kind)
+        self.to_gsm, self.to_pcm = rtp.Outgoing(self.gsm.kind), rtp.Outgoing(self.pcm.kind)
         pairs = {"gsm": (self.gsm, self.to_gsm), "pcm": (self.pcm, self.to_pcm)}
         self.sides = {
             side: Stream(come, go, Reports(go, come.counts)) for side, (come, go) in pairs.items()

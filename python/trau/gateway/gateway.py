@@ -6,11 +6,11 @@ sockets are open, and `ok` or `refused` for each line. It ends at an interrupt, 
 before, or the files of a call couldn't be made; 2 if it was refused. `check` replays a recording and compares: status 0 if all is equal, 1 if not.
 
 Counts of a call: periods with speech, descriptor, invalid (a damaged descriptor), not-gsm, no-gsm, no-pcm, and those held-up (late or given up,
-with the clock). Of each side: packets that came,
-those missing by their numbers, jitter in ms; late, doubled, far (a second off, once), jumps, slips-on, slips-back, given-up (with the clock),
-overflowed (no room in the kernel); refused: stranger, other-address (of this host), other-port, other-type, odd-size, empty, too-long, not-rtp,
-probation (of a new-source), fault (of the gateway); sent, unsent, unreachable (the peer's port is closed); rtcp, rtcp-sent, far-lost (by the
-peer's reports). What the last fault was, and why the last packet was unsent, comes after them.
+with the clock). Of each side: packets that came, those missing by their numbers, jitter in ms; late, doubled, far (a second off, once), jumps,
+slips-on, slips-back, given-up (with the clock), overflowed (no room in the kernel), moved (with `from any`: where packets go to); refused:
+stranger, other-address (of this host), other-port, other-type, odd-size, empty, too-long, not-rtp, probation (of a new-source), fault (of the
+gateway); sent, unsent, unreachable (the peer's port is closed); rtcp, rtcp-sent, far-lost (by the peer's reports). What the last fault was, and
+why the last packet was unsent, comes after them.
 """
 
 from __future__ import annotations
@@ -82,6 +82,7 @@ def words_of(given: Sequence[str]) -> argparse.Namespace:
         metavar="N",
         help="calls that may be open at a time (200)",
     )
+    run.add_argument("--pump", action="store_true", help=argparse.SUPPRESS)  # the loop in C
     check = commands.add_parser("check", help="replays a recording by `trau run`, and compares")
     check.add_argument("folder", type=Path, metavar="FOLDER", help="the recording")
     check.add_argument(
@@ -106,6 +107,7 @@ def main(given: Sequence[str]) -> int:
 
     return live.run(
         live.Options(
-            words.folder, words.calls, words.address, words.seconds, words.every, words.most
+            *(words.folder, words.calls, words.address, words.seconds, words.every, words.most),
+            words.pump,
         )
     )

@@ -43,8 +43,9 @@ class Incoming:
         text = getattr(failure, "strerror", None) or f"{type(failure).__name__} {failure}"
         self.faults[count] = " ".join(text.split())[:MOST_FAULT]
 
-    def packet(self, data: bytes, tick: int, behind: int) -> None:
-        """Takes a datagram that is read at a tick, which is late by `behind` periods."""
+    def packet(self, data: bytes, tick: int, behind: int) -> bool:
+        """Takes a datagram that is read at a tick, which is late by `behind` periods. The result is
+        whether it is a packet of the source that is heard, at a place of its stream."""
         is_watched = behind == 0  # a late tick says nothing about the path
         try:
             if len(data) == self.usual and data.startswith(self.plain):
@@ -59,7 +60,7 @@ class Incoming:
             period, part = self.place(number, stamp, samples, tick, behind)
         except PacketRefused as refused:
             self.counts[str(refused)] += 1
-            return
+            return False
         self.heard = tick
         at = 0
         while at < len(payload):
@@ -69,6 +70,7 @@ class Incoming:
             ):
                 self.counts[reason] += 1
             period, part, at = period + 1, 0, end
+        return True
 
     def parsed(self, data: bytes) -> Tuple[int, int, int, bytes, int]:
         """Number, stamp, source, payload and samples of a packet. One of the source that is heard

@@ -19,6 +19,7 @@ from collections import deque
 from pathlib import Path
 from typing import Deque, List, NamedTuple, Optional, Tuple
 
+from trau.gateway import pump
 from trau.gateway.clock import PHASES, Clock, Turn
 from trau.command_line.words import Refusal
 from trau.rules.profile import PERIODS_A_SECOND
@@ -47,6 +48,7 @@ class Options(NamedTuple):
     seconds: Optional[int]
     every: int
     most_calls: int
+    pump: bool
 
 
 def printable(text: str) -> bytes:
@@ -144,6 +146,7 @@ class Gateway:
 
     def __init__(self, board: Switchboard, clock: Clock, commands: Commands, say: Speaker) -> None:
         self.board, self.clock, self.commands, self.say = board, clock, commands, say
+        self.lines: Deque[str] = deque()  # that are to be executed
         self.is_to_end, self.late = False, 0  # turns that were said to be late
         self.busy_until = 0  # the period up to which no call is opened
 
@@ -162,14 +165,23 @@ class Gateway:
             if load >= MOST_LOAD and line.split()[0] == "open":
                 raise Refusal(f"the gateway uses {load} % of its time")
             if line == "counts":
-                self.say(f"at {period} calls {len(self.board.connections)} {self.state()}")
+                self.board.when_done(period, self.say_state)
             else:
                 self.board.execute(line, period)
-            self.say(f"ok {period} {' '.join(line.split()[:2])}")
+            words = " ".join(line.split()[:2])
+            self.board.when_done(period, lambda at: self.say(f"ok {at} {words}"))
         except (Refusal, OSError) as refused:
             reason = getattr(refused, "strerror", None) or str(refused)
-            reply = printable(f"refused {period} {line[:80]}: {reason}").decode()
-            self.say(reply[:MOST_REPLY])
+            self.board.when_done(period, lambda at: self.refuse(line, reason, at))
+
+    def refuse(self, line: str, reason: str, period: int) -> None:
+        """Says that a line was refused."""
+        reply = printable(f"refused {period} {line[:80]}: {reason}").decode()
+        self.say(reply[:MOST_REPLY])
+
+    def say_state(self, period: int) -> None:
+        """Says the counts of the gateway."""
+        self.say(f"at {period} calls {len(self.board.connections)} {self.state()}")
 
     def state(self) -> str:
         """What a line says of the gateway: late turns and the latest one, what was given up and
@@ -190,8 +202,9 @@ class Gateway:
             self.late = self.clock.late
             if late > PERIODS_A_SECOND * PHASES // 2:  # most turns
                 self.busy_until = turn.period + PERIODS_A_SECOND
-        for line in self.commands.taken():
-            self.obey(line, turn.period)
+        self.lines.extend(() if self.lines else self.commands.taken())
+        while self.lines and self.board.is_ready:
+            self.obey(self.lines.popleft(), turn.period)
         self.board.look_after(turn.period)
 
     def run(self, periods: Optional[int]) -> Tuple[int, bool]:
@@ -213,11 +226,10 @@ class Gateway:
                         break
                     self.begin_period(turn)
                 self.board.process(turn.phase, turn.period, turn.behind)
-            self.board.end(turn.period)
-            end = turn.period
+            end = self.board.end(turn.period)
         finally:
             is_whole = self.board.end_recordings(end)
-        return turn.period, is_whole
+        return end, is_whole
 
 
 def open_file(board: Switchboard, path: Path) -> None:
@@ -275,24 +287,32 @@ def heed_signals(gateway: Gateway) -> None:
         signal.signal(number, signal.SIG_IGN)
 
 
-def run(options: Options) -> int:
-    """Runs the gateway. Status 0, or 1 if the recording ended before."""
-    say, network = Speaker(), Network(options.address)
+def parts_of(options: Options, periods: Optional[int], say: Speaker) -> Tuple[Switchboard, Clock]:
+    """The switchboard and its clock, in Python or over the loop in C."""
+    library = pump.load(pump.library_path()) if options.pump else None
     with naming(options.folder):
         recorder = Recorder(options.folder, options.every, say)
         recorder.make()
-    board = Switchboard(network, recorder, most_calls(options.most_calls), say)
+    calls = most_calls(options.most_calls)
+    if library is None:
+        return Switchboard(Network(options.address), recorder, calls, say), Clock()
+    board = pump.PumpBoard(pump.PumpNetwork(options.address), recorder, calls, say, library)
+    return board, pump.PumpClock(board.pump, periods)
+
+
+def run(options: Options) -> int:
+    """Runs the gateway. Status 0, or 1 if the recording ended before."""
+    say = Speaker()
+    periods = None if options.seconds is None else options.seconds * PERIODS_A_SECOND
+    board, clock = parts_of(options, periods, say)
     board.most_descriptors = most_descriptors(0)
-    clock = Clock()
     gateway = Gateway(board, clock, Commands(None if sys.stdin is None else 0), say)
     begin(board, options.calls)
     heed_signals(gateway)
     gc.collect()
     gc.freeze()
     say("ready")
-    periods, is_whole = gateway.run(
-        None if options.seconds is None else options.seconds * PERIODS_A_SECOND
-    )
-    say(f"end period {periods} {gateway.state()}")
+    ended, is_whole = gateway.run(periods)
+    say(f"end period {ended} {gateway.state()}")
     say.end()
     return 0 if is_whole else 1

@@ -39,11 +39,14 @@ KEEPS_PORT = 50  # periods that a port of the peer has to be still before anothe
 
 
 class Endpoint:
-    """One side of a call: its socket, and whom it hears."""
+    """One side of a call: its socket, whom it hears, and where its packets go."""
 
     def __init__(self, side: Side, is_strict: bool, incoming: Incoming) -> None:
-        self.peer, self.is_strict, self.incoming = side.peer, is_strict, incoming
+        self.peer, self.is_any, self.is_strict = side.peer, side.is_any, is_strict
+        self.incoming = incoming
+        self.is_connected = is_strict  # its socket, to the peer
         self.sender: Optional[Address] = None  # that is heard
+        self.candidate: Optional[Address] = None  # to which packets go if it brings another one
 
     def arrived(self, data: bytes, sender: Address, tick: int, behind: int) -> None:
         """Takes a datagram, if it is the peer's."""
@@ -53,9 +56,24 @@ class Endpoint:
                 return
             self.sender = sender
         try:
-            self.incoming.packet(data, tick, behind)
+            is_heard = self.incoming.packet(data, tick, behind)
         except Exception as failure:  # whatever one call's network brings, the others go on
             self.incoming.fail("fault", failure)
+            return
+        if is_heard and self.is_any and (self.candidate or sender != self.peer):
+            self.follow(sender)
+
+    def follow(self, sender: Address) -> None:
+        """A packet of this sender is of the source that is heard. After two of them in a row packets
+        go there (symmetric RTP, RFC 4961), wherever `open` has the peer: its address may be
+        translated on the way."""
+        if sender == self.peer:
+            self.candidate = None
+        elif sender == self.candidate:
+            self.peer, self.candidate = sender, None
+            self.incoming.counts["moved"] += 1
+        else:
+            self.candidate = sender
 
     def outdated(self, data: bytes, sender: Address) -> None:
         """Drops a datagram of time that was given up."""
@@ -67,10 +85,10 @@ class Endpoint:
     def refusal(self, sender: Address, tick: int) -> str:
         """Why another sender than before isn't heard; empty if it is."""
         heard = self.incoming.heard
-        if sender[0] != self.peer[0] or self.is_strict and sender != self.peer:
+        if not self.is_any and sender[0] != self.peer[0] or self.is_strict and sender != self.peer:
             return "stranger"
         if self.sender and heard is not None and tick - heard < KEEPS_PORT:
-            return "other-port"
+            return "other-port" if sender[0] == self.sender[0] else "stranger"
         return ""
 
 
@@ -215,7 +233,9 @@ class SocketEndpoint(Endpoint):
         is_asked = False
         for data, sender, arrival in self.came_to_control():
             self.incoming.counts["rtcp" if is_control(data) else "not-rtcp"] += 1
-            is_asked |= sender[0] == self.peer[0] and reports.take(data, arrival)
+            if sender[0] == self.peer[0] and reports.take(data, arrival):
+                is_asked = True
+                self.reached = sender if self.is_any else self.reached
         if is_asked:
             with contextlib.suppress(OSError):
                 self.control.sendto(

@@ -25,6 +25,7 @@ from trau.command_line.words import Refusal
 NEW = os.O_WRONLY | os.O_CREAT | os.O_EXCL | os.O_APPEND
 FIRST_DOWN = b"\xff" * FRAME_OCTETS
 CLOSE_OCTETS = len(f"{MOST_STAMP} close {MOST_CALLS}\n")
+ORDER_OCTETS = 32  # of any order, or more
 MOST_WAITING = 32 << 20  # octets that wait for the disk, some 8 s of 200 calls
 LAST_WRITES = 10  # seconds that the disk has at the end
 TO_BEGIN = 0.02  # seconds that it has to make a folder while calls go on
@@ -32,7 +33,7 @@ FILES = 4  # descriptors of a recording without calls: its folder and its texts
 FIRST_NUMBER = 2  # of the recordings that the gateway begins by itself
 CLOCK, EVENTS, ORDERS = "clock.txt", "events.txt", "orders.txt"
 
-Period = Tuple[bytes, bytes, bytes, bytes]  # of Up, Pcm, Down and Out
+Period = Tuple[bytes, bytes, bytes, bytes]  # of Up, Pcm, Down and Out, or some periods of them
 Work = Callable[[], object]
 # Since when it waits, its octets (None: it is done also after a failure), and what is done.
 Given = Tuple[float, Optional[int], Work]
@@ -103,7 +104,11 @@ class NoRecorder:
     def ignore(self, *_: object) -> None:
         """Records nothing."""
 
-    order = event = open = period = write = close = ignore
+    def planned(self, _: str) -> Callable[[int], None]:
+        """No order is recorded."""
+        return self.ignore
+
+    order = event = open = period = block = write = close = ignore
 
 
 class Recorder:
@@ -174,9 +179,8 @@ class Recorder:
 
     def has_room(self, orders: int, opens: int = 0) -> bool:
         """Whether a run will take so many orders more, and then a `close` of each open call."""
-        more, octets = orders + opens + len(self.held), 32 * orders + CLOSE_OCTETS * (
-            opens + len(self.held)
-        )
+        closes = opens + len(self.held)
+        more, octets = orders + closes, ORDER_OCTETS * orders + CLOSE_OCTETS * closes
         return (
             self.has_ended
             or self.orders + more <= MOST_ORDERS
@@ -257,20 +261,31 @@ class Recorder:
         line = f"{text}\n".encode()
         self.attempt(len(line), lambda: write_all(self.texts[name], line))
 
+    def planned(self, text: str) -> Callable[[int], None]:
+        """Counts an order that will be executed; the result records it in its period, before anything
+        that it concerns."""
+        self.orders += 1
+        self.order_octets += ORDER_OCTETS
+
+        def record(period: int) -> None:
+            line = f"{period - self.first} {text}"
+            self.order_octets += len(line) + 1 - ORDER_OCTETS
+            self.text(ORDERS, line)
+
+        return record
+
     def order(self, period: int, text: str) -> None:
         """Records an order, before anything that it concerns."""
-        line = f"{period - self.first} {text}"
-        self.orders += 1
-        self.order_octets += len(line) + 1
-        self.text(ORDERS, line)
+        self.planned(text)(period)
 
     def time(self, period: int) -> None:
         """Records when a period is."""
         self.text(CLOCK, f"{period - self.first} at {now()}")
 
     def give_up(self, period: int, periods: int) -> None:
-        """Records that the clock has given up time."""
-        self.text(CLOCK, f"{period - self.first} given-up {periods}")
+        """Records that the clock has given up time, unless it was before the recording."""
+        if period >= self.first:
+            self.text(CLOCK, f"{period - self.first} given-up {periods}")
 
     def event(self, period: int, text: str) -> None:
         """Records what the network did."""
@@ -309,6 +324,11 @@ class Recorder:
         if len(held) >= self.every:
             self.due.append(call)
 
+    def block(self, call: int, lines: Period) -> None:
+        """Takes some periods of a call at once, which are due."""
+        self.held[call].append(lines)
+        self.due.append(call)
+
     def write(self) -> None:
         """Writes what is held of the calls that are due: one write for each line, as a kill hardly
         comes within one."""
@@ -323,9 +343,10 @@ class Recorder:
     def lines(self, call: int) -> List[bytes]:
         """Takes what is held of a call, as four parts of its lines."""
         held, self.held[call] = self.held[call], []
-        up, pcm, down, out = zip(*held)
-        before, self.down[call] = self.down[call], down[-1]
-        return [b"".join(parts) for parts in (up, pcm, (before, *down[:-1]), out)]
+        up, pcm, down, out = (b"".join(parts) for parts in zip(*held))
+        down = self.down[call] + down
+        self.down[call] = down[-FRAME_OCTETS:]
+        return [up, pcm, down[:-FRAME_OCTETS], out]
 
     def close(self, call: int) -> None:
         """Writes what is held of a call and closes its lines."""

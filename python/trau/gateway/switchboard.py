@@ -8,6 +8,7 @@ import os
 import time
 from collections import Counter
 from dataclasses import dataclass, field
+from functools import partial
 from pathlib import Path
 from typing import Callable, Dict, List, Optional, Set, Tuple
 
@@ -171,20 +172,58 @@ class Switchboard:
         if len(self.connections) >= self.most_calls:
             raise Refusal(f"{self.most_calls} calls are open")
         self.hold_to_descriptors()
-        call = LiveCall(settings, period)
+        call = self.call_of(settings, period)
         connection = self.connected(call, settings)
         try:
             recorder = connection.recorder = self.recorder_of(settings, period)
+            self.begin_call(connection)
         except (Refusal, OSError):
             self.disconnect(connection)
             raise
         self.connections[call.number] = connection
         recorder.open(call.number)
-        recorder.order(period, f"open {call.number}{' mulaw' if call.law == 'mulaw' else ''}")
-        recorder.order(period, f"level {call.number} {call.level}")
-        recorder.order(period, f"dtx {call.number} {'on' if call.dtx else 'off'}")
+        orders = (
+            f"open {call.number}{' mulaw' if call.law == 'mulaw' else ''}",
+            f"level {call.number} {call.level}",
+            f"dtx {call.number} {'on' if call.dtx else 'off'}",
+        )
+        self.when_done(period, *map(recorder.planned, orders))
         if recorder.has_ended:
             self.say(f"call {call.number} isn't recorded: {recorder.ending}")
+
+    def call_of(self, settings: Settings, period: int) -> LiveCall:
+        """The call that is to be opened."""
+        return LiveCall(settings, period)
+
+    # The calls do what follows by themselves here. The loop in C (pump.py) has commands for it.
+
+    @property
+    def is_ready(self) -> bool:
+        """Whether another line may be executed."""
+        return True
+
+    def begin_call(self, connection: Connection) -> None:
+        """The call begins, with its recorder."""
+
+    def change(self, connection: Connection) -> None:
+        """The level or DTX of a call has changed."""
+
+    def join(self, one: Connection, other: Connection) -> None:
+        """Two calls are bridged."""
+
+    def separate(self, connection: Connection) -> None:
+        """The bridge of a call is over."""
+
+    def end_call(self, connection: Connection) -> None:
+        """The call ends."""
+
+    def ask(self, connection: Connection) -> None:
+        """The counts of a call are to be those of now."""
+
+    def when_done(self, period: int, *works: Callable[[int], object]) -> None:
+        """Does these, each with the period in which the line is in force."""
+        for work in works:
+            work(period)
 
     def recorder_of(self, settings: Settings, period: int) -> AnyRecorder:
         """What records a call. If its number was used, or the recording is full, the next is begun."""
@@ -205,7 +244,7 @@ class Switchboard:
         try:
             for side, stream in call.sides.items():
                 connection.endpoints[side] = self.network.open(
-                    settings.sides[side], settings.strict, stream.incoming, phase
+                    settings.sides[side], settings.is_strict, stream.incoming, phase
                 )
         except OSError:
             self.disconnect(connection)
@@ -234,11 +273,17 @@ class Switchboard:
         connection = self.connection(words[0])
         if partner := connection.call.partner:
             self.part(connection.call, partner, period)
+            self.separate(connection)
+        self.end_call(connection)
+        del self.connections[connection.call.number]
+        order = connection.recorder.planned(f"close {connection.call.number}")
+        self.when_done(period, order, lambda at: self.closed(connection, at))
+
+    def closed(self, connection: Connection, period: int) -> None:
+        """A call was closed."""
         self.note(connection, period)
-        connection.recorder.order(period, f"close {connection.call.number}")
         connection.recorder.close(connection.call.number)
         self.disconnect(connection)
-        del self.connections[connection.call.number]
         self.end_old(period)
         self.still -= {f"call {connection.call.number} {side}" for side in connection.call.sides}
         self.say(connection.call.summary(f"to {period}"))
@@ -248,14 +293,18 @@ class Switchboard:
         connection, level = self.connection(words[0]), number(words[1], 0, MOST_LEVEL, "level")
         self.hold_to_room(connection.recorder)
         connection.call.level = level
-        connection.recorder.order(period, f"level {connection.call.number} {level}")
+        self.change(connection)
+        order = f"level {connection.call.number} {level}"
+        self.when_done(period, connection.recorder.planned(order))
 
     def dtx(self, words: List[str], period: int) -> None:
         """Turns DTX of a call on or off."""
         connection, is_on = self.connection(words[0]), switch(words[1])
         self.hold_to_room(connection.recorder)
         connection.call.dtx = is_on
-        connection.recorder.order(period, f"dtx {connection.call.number} {words[1]}")
+        self.change(connection)
+        order = f"dtx {connection.call.number} {words[1]}"
+        self.when_done(period, connection.recorder.planned(order))
 
     def bridge(self, words: List[str], period: int) -> None:
         """Bridges two calls; both are in one phase from now on, the one with the fewest other
@@ -277,7 +326,9 @@ class Switchboard:
         phase = self.emptiest_phase(others)
         for connection in (one, other):
             self.move(connection, phase)
-        one.recorder.order(period, f"bridge {one.call.number} {other.call.number}")
+        self.join(one, other)
+        order = f"bridge {one.call.number} {other.call.number}"
+        self.when_done(period, one.recorder.planned(order))
 
     def unbridge(self, words: List[str], period: int) -> None:
         """Ends a bridge."""
@@ -289,7 +340,9 @@ class Switchboard:
         self.part(connection.call, partner, period)
         others = [each for each in self.connections.values() if each is not connection]
         self.move(connection, self.emptiest_phase(others))
-        connection.recorder.order(period, f"unbridge {connection.call.number}")
+        self.separate(connection)
+        order = f"unbridge {connection.call.number}"
+        self.when_done(period, connection.recorder.planned(order))
 
     def part(self, one: LiveCall, other: LiveCall, period: int) -> None:
         """Ends the bridge of two calls."""
@@ -299,6 +352,11 @@ class Switchboard:
     def counts(self, words: List[str], period: int) -> None:
         """Says the counts of a call up to now. It is no order."""
         connection = self.connection(words[0])
+        self.ask(connection)
+        self.when_done(period, lambda at: self.say_counts(connection, at))
+
+    def say_counts(self, connection: Connection, period: int) -> None:
+        """Says the counts of a call up to a period."""
         ending = connection.recorder.ending_of(connection.call.number)
         summary = connection.call.summary(f"at {period}")
         self.say(f"{summary}, not recorded: {ending}" if ending else summary)
@@ -362,11 +420,15 @@ class Switchboard:
             for connection in connections:
                 connection.call.counts["held-up"] += 1
 
-    def give_up(self, periods: int, period: int) -> None:
-        """The clock has given up time, in all calls alike. What came in it is old, and dropped."""
+    def say_given_up(self, periods: int, period: int) -> None:
+        """Says and records that the clock has given up time."""
         self.say(f"given up {periods} periods at {period}")
         for recorder in self.recorders:
             recorder.give_up(period, periods)
+
+    def give_up(self, periods: int, period: int) -> None:
+        """The clock has given up time, in all calls alike. What came in it is old, and dropped."""
+        self.say_given_up(periods, period)
         self.network.drop()
         for connection in self.connections.values():
             connection.call.give_up(periods, period)
@@ -375,9 +437,8 @@ class Switchboard:
         """Looks after each call and the disk once a second, and writes the time once an hour."""
         for connection in self.connections.values():
             if (period - connection.call.number) % SECOND == 0:
-                self.note(connection, period)
-                for side in connection.call.sides:
-                    self.look_after_side(connection, side, period)
+                self.ask(connection)
+                self.when_done(period, partial(self.look_after_call, connection))
         if period % SECOND == 0:
             for recorder in self.recorders + self.ended:
                 recorder.look_after(period)
@@ -385,6 +446,12 @@ class Switchboard:
         if period % HOUR == 0:
             for recorder in self.recorders:
                 recorder.time(period)
+
+    def look_after_call(self, connection: Connection, period: int) -> None:
+        """Records what its network did, and looks after its sides."""
+        self.note(connection, period)
+        for side in connection.call.sides:
+            self.look_after_side(connection, side, period)
 
     def note(self, connection: Connection, period: int) -> None:
         """Records what the network did since the last time."""
@@ -411,10 +478,11 @@ class Switchboard:
             self.still.remove(name)
             self.say(f"{name} hears again at {period}")
 
-    def end(self, period: int) -> None:
-        """Closes all calls."""
+    def end(self, period: int) -> int:
+        """Closes all calls; the result is the period at which that is."""
         for call in list(self.connections):
             self.close([str(call)], period)
+        return period
 
     def end_recordings(self, period: Optional[int]) -> bool:
         """Ends all recordings, and waits some seconds for the disk; the result is whether all are

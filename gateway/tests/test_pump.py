@@ -1,0 +1,274 @@
+"""The gateway's loop in C: its core beside Python on random networks, its clock, its rings, its sockets; and all tests of calls once more, with
+the loop in place of Python."""
+
+import contextlib
+import ctypes
+import os
+import subprocess
+import sys
+import unittest
+import unittest.mock
+from collections import Counter
+from pathlib import Path
+
+import core_networks
+import loop_library
+from live_support import bound, even_port, with_loopback
+from loop_library import with_compiler
+from support import GATEWAY, InFolder, Kept, with_program
+
+from spoiler import header
+from trau import trau_fr
+from trau.command_line.words import Refusal
+from trau.gateway import pump
+from trau.gateway.clock import PERIOD, PHASE
+from trau.gateway.network import FEWEST_SOCKETS, MOST_PACKETS
+from trau.gateway.pump import RECORD
+from trau.gateway.recorder import Recorder
+
+TESTS = Path(__file__).resolve().parent
+FRAME = b"\xd0" + bytes(32)
+BLOCKS = 100  # of records, besides one for each slot
+
+
+class Turn(ctypes.Structure):
+    _fields_ = [(name, ctypes.c_uint32) for name in ("period", "phase", "behind", "given_up")]
+
+
+def packet(number):
+    """A packet of the base station."""
+    return header(3, number, 160 * number, 5) + FRAME
+
+
+@with_compiler
+class Networks(unittest.TestCase):
+    def test_the_core_does_as_python(self):
+        core, counts = core_networks.load(loop_library.given()), Counter()
+        for seed in range(6):
+            run = core_networks.Run(core, seed)
+            self.assertIsNone(run.differs_at(400), f"seed {seed}")
+            counts += run.counts()
+            run.end()
+        for name in ("late", "doubled", "far", "jumps", "probation", "slips-back", "given-up"):
+            self.assertGreater(counts[name], 0, name)
+
+
+@with_compiler
+class Clocks(unittest.TestCase):
+    def turns(self, times):
+        """The turns of a clock that begins at 0 and is woken at these times, or when a turn is due."""
+        library = pump.load(Path(loop_library.given()))
+        library.pump_clock_new.restype = ctypes.c_void_p
+        library.pump_clock_due.restype = ctypes.c_int64
+        library.pump_clock_due.argtypes = [ctypes.c_void_p]
+        library.pump_clock_turn.restype = Turn
+        library.pump_clock_turn.argtypes = [ctypes.c_void_p, ctypes.c_int64, ctypes.c_int64]
+        clock = ctypes.c_void_p(library.pump_clock_new(ctypes.c_int64(0)))
+        for time in times:
+            due = library.pump_clock_due(clock)
+            woken = due if time is None else time
+            turn = library.pump_clock_turn(clock, woken, woken)
+            yield turn.period, turn.phase, turn.behind, turn.given_up, due
+
+    def test_four_phases(self):
+        wanted = [(*divmod(n, 4), 0, 0, n * PHASE) for n in range(9)]
+        self.assertEqual(list(self.turns([None] * 9)), wanted)
+
+    def test_late_turns_are_made_up_for(self):
+        late = 10 * PERIOD
+        behind = [turn[2] for turn in self.turns([0] + [late] * 45)]
+        self.assertEqual(behind, [0] + [max(0, (late - n * PHASE) // PERIOD) for n in range(1, 46)])
+
+    def test_more_than_a_second_is_given_up(self):
+        turns = list(self.turns([0, 100 * PERIOD, None]))
+        self.assertEqual([turn[:4] for turn in turns[:2]], [(0, 0, 0, 0), (0, 1, 0, 99)])
+        self.assertEqual(turns[2], (0, 2, 0, 0, 99 * PERIOD + 2 * PHASE))
+
+
+@with_compiler
+@with_loopback
+class Loops(InFolder):
+    """A loop with sockets, which the test turns."""
+
+    def setUp(self):
+        super().setUp()
+        self.say = Kept()
+        self.recorder = Recorder(self.folder / "rec", 1, self.say)
+        self.recorder.make()
+        library = pump.load(Path(loop_library.given()))
+        parts = pump.PumpNetwork("127.0.0.1"), self.recorder, 4, self.say
+        with unittest.mock.patch.object(pump, "MOST_WAITING", RECORD * BLOCKS):
+            self.board = pump.PumpBoard(*parts, library)
+        self.addCleanup(self.board.end_recordings, None)
+        self.addCleanup(self.board.end, 0)
+        self.peers = [bound(), bound()]
+        for peer in self.peers:
+            self.addCleanup(peer.close)
+            peer.settimeout(60)
+
+    def open(self, call=1, words=""):
+        """Opens a call; the result is its ports."""
+        gsm, pcm = (peer.getsockname()[1] for peer in self.peers)
+        while True:
+            ports = even_port(), even_port()
+            sides = f"gsm {ports[0]} 127.0.0.1:{gsm} pcm {ports[1]} 127.0.0.1:{pcm}"
+            with contextlib.suppress(OSError):  # somebody may have one of the ports
+                self.board.execute(f"open {call} {sides} {words}", 0)
+                return ports
+
+    def counts(self, call=1, period=0):
+        """The counts of the base station's side."""
+        self.board.ask(self.board.connections[call])
+        self.board.when_done(period)
+        return +self.board.connections[call].call.gsm.counts
+
+    def process(self, period):
+        for phase in range(4):
+            self.board.process(phase, period, 0)
+
+    def test_packets_go_where_two_of_the_peer_came_from(self):
+        gsm, _ = self.open(words="from any")
+        with bound("127.0.0.2") as peer:
+            peer.settimeout(60)
+            for number in range(2):
+                peer.sendto(packet(number), ("127.0.0.1", gsm))
+            period = 0
+            while not self.counts(period=period)["moved"]:
+                self.process(period)
+                period += 1
+            self.process(period)
+            self.assertEqual(len(peer.recv(100)), 12 + 33)
+            self.assertEqual(self.board.connections[1].endpoints["gsm"].peer, peer.getsockname())
+
+    def test_strangers_and_other_ports(self):
+        gsm, _ = self.open(words="strict off")
+        peer = self.peers[0]
+        with bound() as other, bound("127.0.0.2") as stranger:
+            peer.sendto(packet(0), ("127.0.0.1", gsm))
+            while not self.counts()["other-port"] or not self.counts()["stranger"]:
+                self.process(0)
+                other.sendto(packet(1), ("127.0.0.1", gsm))
+                stranger.sendto(packet(1), ("127.0.0.1", gsm))
+        self.assertEqual(self.board.connections[1].call.gsm.heard, 0)
+
+    def test_a_closed_port_of_the_peer_is_counted(self):
+        for call, words in ((1, ""), (2, "strict off")):
+            self.peers[0] = bound()
+            self.open(call, words)
+            self.peers[0].close()
+            period = 0
+            while not self.counts(call, period)["unreachable"]:
+                self.process(period)
+                period += 1
+
+    def test_what_is_read_at_a_tick_is_bounded(self):
+        gsm, _ = self.open()
+        for number in range(150):
+            self.peers[0].sendto(packet(number), ("127.0.0.1", gsm))
+        came = [0]
+        while came[-1] < 150:
+            self.board.process(0, 0, 0)
+            self.counts()
+            reception = self.board.connections[1].call.gsm.reception
+            came.append(reception.received if reception else 0)
+        self.assertLessEqual(
+            max(b - a for a, b in zip(came, came[1:])), MOST_PACKETS * FEWEST_SOCKETS
+        )
+
+    def test_what_is_old_is_dropped(self):
+        gsm, _ = self.open()
+        self.peers[0].sendto(packet(0), ("127.0.0.1", gsm))
+        while not self.board.connections[1].call.gsm.reception:
+            self.process(0)
+            self.counts()
+        for number in range(1, 61):
+            self.peers[0].sendto(packet(number), ("127.0.0.1", gsm))
+        self.board.give_up(100, 1)
+        while self.counts()["given-up"] < 60:
+            self.process(1)
+        self.assertEqual(self.board.connections[1].call.gsm.came(), {"packets": 61, "missing": 0})
+
+    def test_a_disk_that_is_too_slow_ends_the_recording_without_a_gap(self):
+        self.open()
+        loop, kept = self.board.pump, []
+        blocks = []
+        while not kept or kept[-1] != pump.OVERFLOW:
+            loop.library.pump_process(loop.pump, 0, len(kept), 0)
+            event = next(loop.events())
+            kept.append(event.kind)
+            if event.kind == pump.BLOCK:
+                blocks.append((event.number, event.period))
+            self.assertLess(len(kept), 2 * BLOCKS)
+        self.assertEqual([period for _, period in blocks], list(range(len(blocks))))
+        self.assertEqual(len({number for number, _ in blocks}), len(blocks))
+        loop.library.pump_process(loop.pump, 0, len(kept), 0)
+        self.assertEqual(list(loop.events()), [])
+
+    def test_a_loop_that_nobody_looks_after_ends_the_recording(self):
+        self.open()
+        loop = self.board.pump
+        for period in range(2 * BLOCKS):
+            loop.library.pump_process(loop.pump, 0, period, 0)
+        self.board.collect()
+        self.assertEqual(
+            self.say.said[-1], f"recording {self.folder / 'rec'} ended: the disk is too slow"
+        )
+
+    def test_too_many_commands(self):
+        loop = self.board.pump
+        with self.assertRaisesRegex(Refusal, "too many lines wait"):
+            for _ in range(100_000):
+                loop.stage(verb=pump.NOTHING)
+        self.board.execute_batch(7)
+        self.assertEqual((loop.staged, len(loop.works)), (loop.answered, 0))
+        loop.stage(verb=pump.NOTHING)
+        self.board.execute_batch(8)
+
+    def test_slots_serve_again(self):
+        for period in range(40):
+            self.open(1)
+            self.process(period)
+            self.board.execute("close 1", period)
+        self.assertEqual(len(self.board.pump.free), 8)
+
+
+class Libraries(InFolder):
+    def test_one_that_cant_be_had_is_refused(self):
+        for name, reason in (("none.so", "none.so"), (trau_fr.library_name(), "undefined symbol")):
+            words = ["gateway.py", "run", str(self.folder / "rec"), "--pump"]
+            ran = subprocess.run(
+                [sys.executable, str(GATEWAY / words[0]), *words[1:]],
+                env={**os.environ, "TRAU_PUMP": name},
+                stdout=subprocess.PIPE,
+                stderr=subprocess.PIPE,
+                text=True,
+            )
+            self.assertEqual((ran.returncode, ran.stdout, ran.stderr.count("\n")), (2, "", 1))
+            self.assertIn(reason, ran.stderr)
+            self.assertFalse((self.folder / "rec").exists())
+
+
+@with_compiler
+@with_program
+class Again(unittest.TestCase):
+    """Tests of calls, with the loop."""
+
+    def run_again(self, module):
+        ran = subprocess.run(
+            [sys.executable, str(TESTS / module)],
+            env=loop_library.environment(),
+            stdout=subprocess.PIPE,
+            stderr=subprocess.STDOUT,
+            text=True,
+        )
+        self.assertEqual(ran.returncode, 0, ran.stdout)
+
+    def test_turned(self):
+        self.run_again("test_turned.py")
+
+    def test_live(self):
+        self.run_again("test_live.py")
+
+
+if __name__ == "__main__":
+    unittest.main()
