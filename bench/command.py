@@ -36,6 +36,15 @@ class Times:
 
 
 @dataclasses.dataclass(frozen=True)
+class Cost:
+    """What a run costs: seconds of the processor, user and system together, and the peak of
+    resident memory in MiB."""
+
+    processor: float
+    peak: float
+
+
+@dataclasses.dataclass(frozen=True)
 class Command:
     """Words that run in a folder, the files there that are the standard streams, patterns of the
     other files that they make, and what is added to the environment."""
@@ -92,11 +101,16 @@ class Command:
         return Times(wall, usage.ru_utime + usage.ru_stime)
 
     def peak(self) -> float:
-        """The peak of resident memory in MiB. GNU time starts the command, since a child of a large
-        process would report its parent's peak."""
-        report = self.folder / "peak"
-        self.run(GNU_TIME, "-f", "%M", "-o", str(report))
-        return int(report.read_text().split()[-1]) / 1024
+        """The peak of resident memory in MiB."""
+        return self.cost().peak
+
+    def cost(self) -> Cost:
+        """What one run costs. GNU time starts the command, since a child of a large process would
+        report its parent's peak."""
+        report = self.folder / "cost"
+        self.run(GNU_TIME, "-f", "%U %S %M", "-o", str(report))
+        user, system, kibibytes = report.read_text().split()[-3:]
+        return Cost(float(user) + float(system), int(kibibytes) / 1024)
 
     def system_calls(self) -> int:
         """How many calls of the system the command and its threads make, by strace."""

@@ -62,7 +62,8 @@ def pcap(words: argparse.Namespace, _: bytes) -> MadeFile:
     """Makes a line from an RTP stream of a capture (pcap or pcapng), by its time stamps: an uplink
     from GSM (payload type 3), a Pcm line from PCMA (8) or PCMU (0). Frames that didn't come become
     unusable frames; in a pause each 24th frame after a silence descriptor has TAF 1. Samples that
-    didn't come become idle octets. Needs the library dpkt. Prints `pcap gsm packets N late A
+    didn't come become idle octets. Packets with options, in tunnels and on rare links need the
+    library dpkt. Prints `pcap gsm packets N late A
     doubled B others C frames D sid S invalid I lost E gap F empty G paused H lead J`, or `octets D
     lost E gap F lead J padded K`. A packets came after later ones, B came again, C have no speech.
     Of the frames that didn't come E have missing numbers, F were left out by the time stamps after

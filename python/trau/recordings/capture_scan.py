@@ -1,4 +1,5 @@
-"""A scan of a whole capture: its file is mapped, so that little of it is in memory at a time."""
+"""A scan of a whole capture: its file, or what was packed in it, is mapped, so that little of it is
+in memory at a time."""
 
 import argparse
 import contextlib
@@ -6,7 +7,7 @@ import mmap
 from pathlib import Path
 from typing import Iterator, Optional
 
-from trau.command_line.files import STREAM, opened
+from trau.command_line.files import STREAM
 from trau.recordings import recordings
 from trau.recordings.capture_walk import CaptureOctets, is_capture
 from trau.recordings.line_scan import ReadingProgress
@@ -15,18 +16,13 @@ from trau.recordings.rtp_walk import CaptureScan, Take, scan_capture
 
 @contextlib.contextmanager
 def capture_octets(name: Path, partial: bool = False) -> Iterator[CaptureOctets]:
-    """The octets of a capture, mapped where it is a file that isn't packed."""
-    if name == STREAM or name.suffix == recordings.PACKED:
-        yield recordings.read_recording(name, partial)
-        return
-    with opened(name) as file:
-        try:
-            mapped = mmap.mmap(file.fileno(), 0, access=mmap.ACCESS_READ)
-        except (OSError, ValueError):  # as a pipe
-            yield file.read()
-            return
-        with mapped:
-            yield mapped
+    """The octets of a capture, mapped."""
+    octets = recordings.mapped(name, partial)
+    try:
+        yield octets
+    finally:
+        if isinstance(octets, mmap.mmap):
+            octets.close()
 
 
 def has_capture(name: Path) -> bool:

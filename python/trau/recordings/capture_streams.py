@@ -6,11 +6,11 @@ from __future__ import annotations
 from collections import Counter
 from dataclasses import dataclass, field
 from pathlib import Path
-from typing import Dict, Iterator, List, Mapping, NamedTuple, NoReturn, Optional, Sequence
+from typing import Dict, Iterator, List, Mapping, NoReturn, Optional, Sequence
 
 from trau.command_line.words import Refusal
-from trau.recordings import rtp_walk, udp_layers
-from trau.recordings.capture_walk import BrokenCapture, CaptureOctets, Interfaces, walk
+from trau.recordings import udp_layers
+from trau.recordings.capture_walk import CaptureOctets
 from trau.recordings.rtp_packets import (
     LEAST_OF_STREAM,
     PLAIN_TYPES,
@@ -19,9 +19,8 @@ from trau.recordings.rtp_packets import (
     Packet,
     payload_said,
 )
-from trau.recordings.rtp_streams import frames_of
-from trau.recordings.rtp_walk import Key, RtpPacket
-from trau.recordings.udp_layers import Unread
+from trau.recordings.rtp_streams import has_frames
+from trau.recordings.rtp_walk import CapturePass, Key, PassedPacket
 from trau.rules.parameters import GSM_MAGIC, GSM_OCTETS
 from trau.rules.payload_types import GSM
 from trau.rules.profile import PERIODS_A_SECOND
@@ -29,63 +28,6 @@ from trau.rules.profile import PERIODS_A_SECOND
 MOST_FLOWS = 1 << 16
 MOST_SIZES = 64  # of payloads of a kind that are told apart
 FURTHER = f"of more than {MOST_FLOWS} streams"
-# Of packets that needn't be named: those that were cut off are counted by their lengths.
-PLAIN_REASONS = (udp_layers.NOT_UDP, rtp_walk.NO_RTP, udp_layers.CUT)
-
-
-class PassedPacket(NamedTuple):
-    """A packet of RTP: its number in the capture from 1, its time in seconds since 1970, and whether
-    less of it was captured than sent."""
-
-    number: int
-    time: float
-    rtp: RtpPacket
-    is_short: bool
-
-
-@dataclass
-class CapturePass:
-    """A pass over the packets of a capture: packets that aren't read, by why; how many there are,
-    and of how many a part wasn't captured; and what is wrong where the capture breaks off."""
-
-    data: CaptureOctets
-    unread: Counter = field(default_factory=Counter)
-    packets: int = 0
-    short: int = 0
-    broken: str = ""
-
-    def rtp(self) -> Iterator[PassedPacket]:
-        """The packets of RTP."""
-        interfaces: Interfaces = []
-        time, release = 0.0, rtp_walk.RELEASED
-        try:
-            for ticks, which, place, captured, sent in walk(self.data, interfaces):
-                self.packets += 1
-                self.short += captured < sent
-                if place > release:
-                    release = place + rtp_walk.RELEASED
-                    rtp_walk.let_go(self.data, place)
-                link, a_second, offset = interfaces[which]
-                if ticks is not None:
-                    time = ticks / a_second + offset
-                try:
-                    rtp = rtp_walk.rtp_of(self.data[place : place + captured], link)
-                except Unread as why:
-                    self.unread[str(why)] += 1
-                    continue
-                yield PassedPacket(self.packets, time, rtp, captured < sent)
-        except BrokenCapture as failure:
-            self.broken = str(failure)
-
-    def cut_off(self) -> str:
-        """How many packets were cut off, in words that follow others."""
-        said = f"; {self.short} of {self.packets} packets are cut off (the captured length is below the length on the wire)"
-        return said if self.short else ""
-
-    def unread_said(self) -> str:
-        """The packets that aren't read and are unusual, in words; empty without any."""
-        odd = {why: count for why, count in self.unread.items() if why not in PLAIN_REASONS}
-        return ", ".join(f"{count} packets {why}" for why, count in odd.items())
 
 
 @dataclass
@@ -104,7 +46,7 @@ class KindPayloads:
         if size in self.samples or len(self.samples) < MOST_SIZES:
             self.sizes[size] += 1
             self.samples.setdefault(size, payload)
-        if frames_of(payload) is None:
+        if not has_frames(payload):
             self.wrongs += 1
             self.wrong = self.wrong or payload
 
@@ -171,7 +113,7 @@ class CapturedStreams:
         """The packets of a stream, as they were captured, without those that weren't captured
         whole."""
         wanted = next(key for key, each in self.by_key.items() if each is flow)
-        for number, time, rtp, _ in CapturePass(self.data).rtp():
+        for number, time, _, rtp in CapturePass(self.data).rtp():
             if rtp.key == wanted and rtp.payload is not None:
                 kind = self.types.get(rtp.kind, rtp.kind)
                 yield Packet(number, kind, rtp.sequence, rtp.stamp, rtp.payload, time)
@@ -222,7 +164,7 @@ def streams_of(
     flows: Dict[Key, CapturedFlow] = {}
     first_cut: Optional[PassedPacket] = None
     for packet in found.rtp():
-        rtp = packet.rtp
+        _, time, _, rtp = packet
         kind = types.get(rtp.kind, rtp.kind)
         if rtp.payload is None and kind in READ_KINDS:
             streams.cut += 1
@@ -234,8 +176,8 @@ def streams_of(
                 found.unread[FURTHER] += 1
                 continue
             ends = Flow(*udp_layers.key_said(rtp.key[0]), rtp.key[1])
-            flow = flows[rtp.key] = CapturedFlow(ends, packet.time, packet.time)
-        flow.take(kind, rtp.payload or b"", packet.time)
+            flow = flows[rtp.key] = CapturedFlow(ends, time, time)
+        flow.take(kind, rtp.payload or b"", time)
     if not partial:
         refuse_broken(name, found, first_cut)
     streams.cut += bool(found.broken)  # the packet in which the capture ends
@@ -254,8 +196,9 @@ def refuse_broken(name: Path, found: CapturePass, cut: Optional[PassedPacket]) -
         raise Refusal(f"{name}: {found.broken}; --partial takes the packets before that")
     if cut:
         fragment = "is a fragment, and its parts aren't joined here"
-        why = f"wasn't captured whole{found.cut_off()}" if cut.is_short else fragment
-        raise Refusal(f"{name}: packet {cut.number} {why}; --partial leaves such packets out")
+        number, _, is_short, _ = cut
+        why = f"wasn't captured whole{found.cut_off()}" if is_short else fragment
+        raise Refusal(f"{name}: packet {number} {why}; --partial leaves such packets out")
 
 
 def kind_of(flows: Sequence[CapturedFlow]) -> int:

@@ -52,15 +52,9 @@ class CaptureInterface(NamedTuple):
     offset: int = 0
 
 
-class PacketPlace(NamedTuple):
-    """A packet in a capture: its time in ticks (None where the block has none), the number of its
-    interface, where its octets begin, how many were captured, and how many were sent."""
-
-    ticks: Optional[int]
-    interface: int
-    place: int
-    captured: int
-    sent: int
+# A packet in a capture: its time in ticks (None where the block has none), the number of its
+# interface, where its octets begin, how many were captured, and how many were sent.
+PacketPlace = Tuple[Optional[int], int, int, int, int]
 
 
 class CapturedPacket(NamedTuple):
@@ -96,7 +90,7 @@ def walk_pcap(data: CaptureOctets, interfaces: Interfaces) -> Iterator[PacketPla
             raise BrokenCapture(f"packet {number} would have {captured} octets")
         if place + captured > end:
             raise BrokenCapture(f"ends within packet {number}")
-        yield PacketPlace(seconds * ticks + part, 0, place, captured, sent)
+        yield seconds * ticks + part, 0, place, captured, sent
         place += captured
     if place != end:
         raise BrokenCapture("ends within a packet's head")
@@ -148,9 +142,7 @@ class Section:
             raise BrokenCapture(f"has a packet's block of {size} octets at {place}")
         if kind == SIMPLE_PACKET:
             sent = self.head(data, place + BLOCK_HEAD)[0]
-            return PacketPlace(
-                None, self.interface(0, place), place + content, min(sent, room), sent
-            )
+            return None, self.interface(0, place), place + content, min(sent, room), sent
         if kind == ENHANCED_PACKET:
             which, high, low, captured, sent = self.enhanced(data, place + BLOCK_HEAD)
         else:
@@ -160,7 +152,7 @@ class Section:
                 f"has a packet of {captured} octets in a block of {size} at {place}"
             )
         interface = self.interface(which, place)
-        return PacketPlace(high << 32 | low, interface, place + content, captured, sent)
+        return high << 32 | low, interface, place + content, captured, sent
 
     def interface(self, number: int, place: int) -> int:
         """The number among all of the capture's of an interface of this section."""

@@ -1,8 +1,8 @@
 """Speech in captures of network packets (RTP, RFC 3550 and RFC 3551): full rate speech, A-law or
 mu-law to the lines of a call, and lines to captures that other programs play.
 
-The library dpkt reads and writes captures and their packets. Without it, these commands are refused
-with a word.
+The library dpkt writes captures, and reads packets with unusual layers. Without it, `capture` is
+refused with a word, and these packets are counted.
 """
 
 import argparse
@@ -23,13 +23,12 @@ from trau.recordings.capture_streams import (
     streams_of,
 )
 from trau.recordings.capture_walk import CaptureOctets
+from trau.recordings.packet_rows import SEQUENCES, STAMPS, rows_of
 from trau.recordings.rtp_packets import NAMES, PLAIN_TYPES, TRAU_FRAMES, Packet, library
 from trau.recordings.rtp_streams import (
-    EMPTY,
     MOST_GAPS,
-    SEQUENCES,
-    STAMPS,
     Counts,
+    EmptyFrames,
     Gap,
     LostUnits,
     Stretch,
@@ -62,6 +61,7 @@ MOST_LEAD = MOST_GAPS // PCM_OCTETS  # periods
 # speech while no number is missing; packets without payload; and time stamps that go on after a
 # silence descriptor.
 LOST, GAP, EMPTIED, PAUSED = "lost", "gap", "empty", "paused"
+REASONS = {LostUnits: LOST, EmptyFrames: EMPTIED}
 
 
 CHUNK_OCTETS = 1 << 20  # of a line that is written as it is made
@@ -92,18 +92,17 @@ class UplinkOfStream:
         line = UplinkFrames(self.marker)
         for stretch in self.found:
             for _ in self.taken(line, stretch):
-                if len(line.frames) >= CHUNK_OCTETS:
+                if line.octets() >= CHUNK_OCTETS:
                     yield line.drained()
         yield line.drained()
 
     def taken(self, line: UplinkFrames, stretch: Stretch) -> Iterator[int]:
         """Takes a stretch, part by part."""
-        if isinstance(stretch, list):
-            self.missing[EMPTIED] += stretch.count(EMPTY)
+        if isinstance(stretch, bytes):
             line.take_gsm(stretch)
             yield len(stretch)
             return
-        what = LOST if isinstance(stretch, LostUnits) else PAUSED if line.pauses() else GAP
+        what = REASONS.get(type(stretch)) or (PAUSED if line.pauses() else GAP)
         self.missing[what] += stretch.units
         for part in in_parts(stretch.units):
             if what == GAP and self.gaps_are_idle:
@@ -136,9 +135,9 @@ class PcmOfStream:
         for part in in_parts(self.lead * PCM_OCTETS):
             yield part * self.idle
         for stretch in self.found:
-            if isinstance(stretch, list):
-                self.units[list] += len(stretch)
-                yield bytes(stretch).translate(self.table)
+            if isinstance(stretch, bytes):
+                self.units[bytes] += len(stretch)
+                yield stretch.translate(self.table)
                 continue
             self.units[type(stretch)] += stretch.units
             for part in in_parts(stretch.units):
@@ -148,7 +147,7 @@ class PcmOfStream:
 
     def said(self) -> str:
         """What the line has, in octets, when it is made."""
-        octets, lost, gap = (self.units[kind] for kind in (list, LostUnits, Gap))
+        octets, lost, gap = (self.units[kind] for kind in (bytes, LostUnits, Gap))
         return f"octets {octets} lost {lost} gap {gap} lead {self.lead} padded {self.padded}"
 
 
@@ -230,8 +229,9 @@ def line_of(
             lambda: f"pcap trau frames {counts.packets}{unread_said(streams)}",
             kind,
         )
-    packets = [without_wrong(name, streams.packets(flow), asked.partial, counts) for flow in flows]
-    found = stretches(name, packets, kind, asked.restart, counts, asked.long_gaps)
+    rows = (rows_of(streams.packets(flow)) for flow in flows)
+    right = [without_wrong(name, each, asked.partial, counts) for each in rows]
+    found = stretches(name, right, kind, asked.restart, counts, asked.long_gaps)
     line: Union[UplinkOfStream, PcmOfStream]
     if kind == GSM:
         line = UplinkOfStream(found, lead, marker, asked.gap == "idle")
@@ -289,7 +289,7 @@ class Pauses:
         """What is sent in the next period of a pause, by the latest descriptor."""
         self.periods = 0 if self.periods is None else self.periods + 1
         if not self.keeps:
-            noise = comfort_noise(parameters_of_bits(self.descriptor), self.source)
+            noise = comfort_noise(parameters_of_bits(self.descriptor), self.source, 0)
             return gsm_of_data(bits_of_parameters(noise))
         return marked(self.descriptor) if self.periods % TAF_PERIODS == 0 else None
 

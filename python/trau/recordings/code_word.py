@@ -75,7 +75,7 @@ class Marker:
     def kind(self, data: str) -> FrameKind:
         """What a frame counts as."""
         kind = FrameKind.SPEECH if self.keeps else kind_of(data)
-        self.counts[kind] += 1
+        self.counts.update([kind])
         return kind
 
     def control(self, kind: FrameKind, taf: bool = False) -> str:

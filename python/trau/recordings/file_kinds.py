@@ -113,15 +113,20 @@ def by_statistics(of: Excerpts) -> Optional[FileDescription]:
     """Sound of a law, or samples of 16 bits, where one of them is plainly the best reading."""
     octets = telling_octets(of)
     best = readings.best_reading(octets)
-    return by_blocks(octets) or look_of_reading(best) if best else None
+    if best:
+        return by_blocks(octets) or look_of_reading(best)
+    # The heads of short blocks are much of what is read: without them the sound may be plain.
+    blocks = readings.blocks_in(octets)
+    has_sound = blocks and readings.best_reading(blocks.sound(octets))
+    return by_blocks(octets) if has_sound else None
 
 
 def by_blocks(octets: bytes) -> Optional[FileDescription]:
     """Sound in a container that isn't known here, by the heads of its blocks."""
-    size = readings.size_of_blocks(octets)
-    if size is None:
+    blocks = readings.blocks_in(octets)
+    if blocks is None:
         return None
-    said = f"sound in blocks of {size} octets with heads between, as it seems: a container that isn't known here"
+    said = f"sound in blocks of {blocks.size} octets with heads between, as it seems: a container that isn't known here"
     return FileDescription(FileKind.CONTAINER, said)
 
 

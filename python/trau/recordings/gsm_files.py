@@ -124,7 +124,7 @@ WORDS = ("speech", "silence", "idle", "other")
 def treated(data: str, treatment: str, source: RandomSource) -> Optional[str]:
     """D1 to D260 as they are written, or None where nothing is."""
     if treatment == "noise":
-        return bits_of_parameters(comfort_noise(parameters_of_bits(data), source))
+        return bits_of_parameters(comfort_noise(parameters_of_bits(data), source, 0))
     if treatment == "quiet":
         return bits_of_parameters(SILENCE)
     return data if treatment == "keep" else None

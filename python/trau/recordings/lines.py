@@ -3,9 +3,9 @@ A-law and mu-law, slots of E1 recordings and captures of network packets. It als
 is, and damages uplinks.
 
 A command reads one file and writes another (`idle` reads none; `look` and `capture` may read
-several; `look` writes none), and prints one line on standard output that says what it did. `-` is
-standard input or standard output; if the file goes to standard output, the line goes to standard
-error. Each command unpacks a file whose name ends with .gz as it reads it. If a command can't take
+several; `look` and `frames` write none), and prints one line on standard output that says what it
+did. `-` is standard input or standard output; if the file goes to standard output, the line goes to
+standard error. Each command unpacks a file whose name ends with .gz as it reads it. If a command can't take
 something, it prints one line on standard error, exits with status 2 and writes nothing."""
 
 
@@ -18,6 +18,7 @@ from trau.command_line.words import Words, option
 from trau.recordings import (
     capture_commands,
     frame_commands,
+    frame_row_commands,
     recording_commands,
     slot_commands,
     sound_commands,
@@ -35,6 +36,7 @@ COMMANDS = (
     capture_commands.PCAP,
     capture_commands.CAPTURE,
     frame_commands.DAMAGE,
+    frame_row_commands.ASSEMBLE,
 )
 
 
@@ -48,6 +50,7 @@ def main(words: Sequence[str]) -> int:
     )
     add(look, "what files are", inspect.getdoc(look), files, example="*")
     recording_commands.add_to(add)
+    frame_row_commands.add_to(add)
     for command in COMMANDS:
         command.add_to(add)
     asked = program.parse_args(words)

@@ -58,7 +58,7 @@ def look(words: argparse.Namespace) -> int:
     captures are known by their heads; uplinks, downlinks, lines of frames that trau doesn't decode,
     time slots and E1 lines by the frames in them, at any bit and in either order of the bits of an
     octet; A-law, mu-law and samples of 16 bits by statistics, which are a guess. Of a capture it
-    lists the streams, a line each, which needs the library dpkt; of an E1 line the slots with
+    lists the streams, a line each; of an E1 line the slots with
     frames, with the command that takes each, and what the others have. It looks at
     the head, after an idle start, and at places all over the file. A file that can't be read is named on standard
     error, and the status is 2 at the end."""

@@ -131,9 +131,20 @@ LEAST_HEAD = 2  # octets that each head has alike
 IDLE_OCTETS = 2  # the most frequent ones, which sound may repeat anywhere
 
 
-def size_of_blocks(octets: bytes) -> Optional[int]:
-    """The size of blocks that begin alike, as those of a container with heads between octets of
-    sound, if octets have such. What repeats itself as a whole, as tones do, has none."""
+class Blocks(NamedTuple):
+    """The size of blocks that begin alike, and which octets of each are the same in all."""
+
+    size: int
+    heads: Sequence[int]
+
+    def sound(self, octets: bytes) -> bytes:
+        """Octets without those that are the same in each block."""
+        return bytes(octet for at, octet in enumerate(octets) if at % self.size not in self.heads)
+
+
+def blocks_in(octets: bytes) -> Optional[Blocks]:
+    """Blocks that begin alike, as those of a container with heads between octets of sound, if
+    octets have such. What repeats itself as a whole, as tones do, has none."""
     octets = octets[:MOST_OCTETS]
     idle = {octet for octet, _ in Counter(octets).most_common(IDLE_OCTETS)}
     for size in range(LEAST_BLOCK, min(MOST_BLOCK, len(octets) // LEAST_BLOCKS) + 1):
@@ -141,5 +152,5 @@ def size_of_blocks(octets: bytes) -> Optional[int]:
         alike = [at for at, (one, other) in enumerate(pairs) if one == other and one not in idle]
         heads = [at for at in alike if len(set(octets[at::size])) == 1]
         if LEAST_HEAD <= len(heads) <= size // 4:
-            return size
+            return Blocks(size, heads)
     return None

@@ -17,6 +17,8 @@ from trau.rules.slots import octets_from, octets_turned
 
 BLOCK_OCTETS = 1 << 20
 PACKED = ".gz"
+# Of what comes from a pipe or was packed and is put into a file: some more than a day of an E1 line.
+MOST_KEPT = 1 << 35
 
 
 def name_within(path: Path) -> Path:
@@ -68,9 +70,20 @@ def mapped(path: Path, partial: bool = False) -> Union[bytes, mmap.mmap]:
         if path.suffix != PACKED and path != STREAM and path.is_file():
             return map_of(file)
     with tempfile.TemporaryFile() as whole:
-        whole.writelines(blocks_of(path, partial))
+        whole.writelines(at_most(path, blocks_of(path, partial), MOST_KEPT))
         whole.flush()
         return map_of(whole)
+
+
+def at_most(path: Path, blocks: Iterable[bytes], most: int) -> Iterator[bytes]:
+    """Blocks of a recording that isn't longer: what was packed much would fill the disk."""
+    octets = 0
+    for block in blocks:
+        octets += len(block)
+        if octets > most:
+            within = "holds" if path.suffix == PACKED else "has"
+            raise Refusal(f"{path}: {within} more than {most:,} octets, which aren't kept")
+        yield block
 
 
 def map_of(file: IO[bytes]) -> Union[bytes, mmap.mmap]:

@@ -6,17 +6,16 @@ import heapq
 import itertools
 from dataclasses import dataclass
 from pathlib import Path
-from typing import Any, Iterable, Iterator, List, NamedTuple, Optional, Sequence, Set, Tuple, Union
+from typing import Iterable, Iterator, List, NamedTuple, Optional, Set, Tuple, Union
 
 from trau.command_line.words import Refusal
 from trau.recordings import rtp_packets
-from trau.recordings.rtp_packets import Packet
+from trau.recordings.packet_rows import SEQUENCES, STAMPS, PacketRow
 from trau.rules.parameters import GSM_MAGIC, GSM_OCTETS
 from trau.rules.payload_types import GSM
 from trau.rules.profile import PCM_OCTETS, SAMPLES_A_SECOND
 
-# Time stamps count samples, each of them an octet of a Pcm line.
-SEQUENCES, STAMPS = 1 << 16, 1 << 32
+GSM_STARTS = bytes(GSM_MAGIC << 4 | low for low in range(16))  # first octets of frames of GSM
 LONGEST_GAP = 3600 * SAMPLES_A_SECOND
 MOST_GAPS = 24 * LONGEST_GAP  # of a line
 # A time stamp that jumps by more, and by more than the capture's times do, is of a sender that
@@ -49,10 +48,14 @@ class Gap(NamedTuple):
     units: int
 
 
-EMPTY = b""  # the unit of a packet of GSM without payload: a frame that its sender had lost
+class EmptyFrames(NamedTuple):
+    """Packets of GSM without payload: frames that their sender had lost."""
 
-# A stretch of a stream: units that came, or none.
-Stretch = Union[List[Any], LostUnits, Gap]
+    units: int
+
+
+# A stretch of a stream: the octets of units that came, or units that didn't.
+Stretch = Union[bytes, LostUnits, Gap, EmptyFrames]
 
 
 def near(value: int, before: int, size: int) -> int:
@@ -63,43 +66,46 @@ def near(value: int, before: int, size: int) -> int:
 # Where a stream begins anew
 
 
-def has_jumped(before: Packet, packet: Packet) -> bool:
-    """Whether a packet's time stamp is one of a sender that began anew."""
-    jump = near(packet.stamp, before.stamp, STAMPS) - before.stamp
-    return (
-        min(abs(jump), abs(jump - round((packet.time - before.time) * SAMPLES_A_SECOND)))
-        > MOST_JUMP
-    )
+def jump_of(before: PacketRow, row: PacketRow) -> int:
+    """How far the time stamp goes on from the last packet of a row to the first of the next."""
+    return near(row.stamp, before.last_stamp(), STAMPS) - before.last_stamp()
 
 
-def refuse_restart(name: Path, before: Packet, packet: Packet) -> None:
+def has_jumped(before: PacketRow, row: PacketRow) -> bool:
+    """Whether a row's time stamp is one of a sender that began anew."""
+    jump = jump_of(before, row)
+    passed = round((row.time - before.last_time) * SAMPLES_A_SECOND)
+    return min(abs(jump), abs(jump - passed)) > MOST_JUMP
+
+
+def refuse_restart(name: Path, before: PacketRow, row: PacketRow) -> None:
     """Refuses a stream whose sender began anew."""
-    jump = (near(packet.stamp, before.stamp, STAMPS) - before.stamp) / SAMPLES_A_SECOND
+    jump = jump_of(before, row) / SAMPLES_A_SECOND
     raise Refusal(
-        f"{name}: the time stamp of packet {packet.number} is {jump:.0f} s after that of packet {before.number}, which came"
-        f" {packet.time - before.time:.2f} s before it: the sender began anew; --restart goes on by the times of the capture"
+        f"{name}: the time stamp of packet {row.number} is {jump:.0f} s after that of packet {before.last_number}, which came"
+        f" {row.time - before.last_time:.2f} s before it: the sender began anew; --restart goes on by the times of the capture"
     )
 
 
 def by_runs(
-    name: Path, packets: Iterable[Packet], kind: int, restart: bool, counts: Counts
-) -> Iterator[Iterator[Packet]]:
+    name: Path, rows: Iterable[PacketRow], kind: int, restart: bool, counts: Counts
+) -> Iterator[Iterator[PacketRow]]:
     """The packets of a stream, as they were captured, from each start of the sender to the next.
     Only those with speech tell."""
 
-    def numbered() -> Iterator[Tuple[int, Packet]]:
-        before: Optional[Packet] = None
-        for packet in packets:
-            if packet.kind == kind:
-                if before and has_jumped(before, packet):
+    def numbered() -> Iterator[Tuple[int, PacketRow]]:
+        before: Optional[PacketRow] = None
+        for row in rows:
+            if row.kind == kind:
+                if before and has_jumped(before, row):
                     if not restart:
-                        refuse_restart(name, before, packet)
+                        refuse_restart(name, before, row)
                     counts.restarts += 1
-                before = packet
-            yield counts.restarts, packet
+                before = row
+            yield counts.restarts, row
 
     for _, run in itertools.groupby(numbered(), lambda each: each[0]):
-        yield (packet for _, packet in run)
+        yield (row for _, row in run)
 
 
 # A run of packets in the order of its time stamps
@@ -113,88 +119,103 @@ class WaitingPackets:
 
     def __init__(self, counts: Counts) -> None:
         self.counts = counts
-        self.waiting: List[Tuple[int, Packet]] = []
+        self.waiting: List[Tuple[int, PacketRow]] = []
+        self.size = 0  # packets that wait
         self.known: Set[int] = set()  # numbers that came, as far back as any may wait
         self.newest: Optional[int] = None
         self.stamp = 0
         self.given: Optional[int] = None  # the number that was given last
 
-    def take(self, packet: Packet) -> None:
-        """One more packet, as it was captured."""
+    def take(self, row: PacketRow) -> None:
+        """One more row, as it was captured. Numbers after all others are new together; of a row
+        that came late each is looked at."""
         if self.newest is None:
-            self.newest, self.stamp = packet.sequence, packet.stamp
-        sequence = near(packet.sequence, self.newest, SEQUENCES)
-        self.stamp = near(packet.stamp, self.stamp, STAMPS)
-        self.counts.packets += 1
+            self.newest, self.stamp = row.sequence - 1, row.stamp
+        if row.packets == 1 or near(row.sequence, self.newest, SEQUENCES) > self.newest:
+            self.take_numbers(row, self.newest)
+        else:
+            for each in row.singles():
+                self.take_numbers(each, self.newest)
+
+    def take_numbers(self, row: PacketRow, newest: int) -> None:
+        """Takes a row of new numbers, or a packet."""
+        sequence = near(row.sequence, newest, SEQUENCES)
+        stamp = near(row.stamp, self.stamp, STAMPS)
+        last = sequence + row.packets - 1
+        self.stamp = stamp + row.step * (row.packets - 1)
+        self.counts.packets += row.packets
         if sequence in self.known:
             self.counts.doubled += 1
             return
-        self.counts.late += sequence < self.newest
-        self.newest = max(self.newest, sequence)
-        self.known.add(sequence)
+        self.counts.late += sequence < newest
+        self.newest = max(newest, last)
+        self.known.update(range(sequence, last + 1))
         if self.given is not None and sequence < self.given:
             self.counts.over += 1
             return
-        found = packet._replace(sequence=sequence, stamp=self.stamp)
-        heapq.heappush(self.waiting, (sequence, found))
+        heapq.heappush(self.waiting, (sequence, row._replace(sequence=sequence, stamp=stamp)))
+        self.size += row.packets
 
-    def next(self) -> Packet:
-        """The waiting packet with the lowest number."""
-        self.given, packet = heapq.heappop(self.waiting)
-        if len(self.known) > 4 * MOST_WAITING:
-            self.known = {number for number in self.known if number > self.given - MOST_WAITING}
-        return packet
+    def given_until(self, size: int) -> Iterator[PacketRow]:
+        """The packets with the lowest numbers, until so many wait."""
+        while self.size > size:
+            sequence, row = heapq.heappop(self.waiting)
+            count = self.size - size
+            if row.packets > count:
+                row, rest = row.split(count)
+                heapq.heappush(self.waiting, (rest.sequence, rest))
+            self.size -= row.packets
+            self.given = sequence + row.packets - 1
+            if len(self.known) > 4 * MOST_WAITING:
+                self.known = {each for each in self.known if each > self.given - MOST_WAITING}
+            yield row
 
 
-def in_order(packets: Iterable[Packet], counts: Counts) -> Iterator[Packet]:
+def in_order(rows: Iterable[PacketRow], counts: Counts) -> Iterator[PacketRow]:
     """The packets in the order of their numbers, each number once."""
     waiting = WaitingPackets(counts)
-    for packet in packets:
-        waiting.take(packet)
-        if len(waiting.waiting) > MOST_WAITING:
-            yield waiting.next()
-    while waiting.waiting:
-        yield waiting.next()
+    for row in rows:
+        waiting.take(row)
+        yield from waiting.given_until(MOST_WAITING)
+    yield from waiting.given_until(0)
 
 
-def frames_of(payload: bytes) -> Optional[List[bytes]]:
-    """The frames of GSM of a payload, or None if it has anything else. One without payload is a
-    frame that its sender had lost."""
-    if not payload:
-        return [EMPTY]
-    frames = [payload[place : place + GSM_OCTETS] for place in range(0, len(payload), GSM_OCTETS)]
-    are_whole = all(len(frame) == GSM_OCTETS and frame[0] >> 4 == GSM_MAGIC for frame in frames)
-    return frames if are_whole else None
+def has_frames(payload: bytes) -> bool:
+    """Whether a payload is whole frames of GSM. One without octets is a frame that its sender had
+    lost."""
+    if len(payload) % GSM_OCTETS:
+        return False
+    return not payload[::GSM_OCTETS].strip(GSM_STARTS)
 
 
-def units_of(packet: Packet, kind: int) -> List[Any]:
-    """The units of a packet: frames of GSM, or octets, one a sample. None for a packet of another
-    kind."""
-    if packet.kind != kind:
-        return []
-    if kind == GSM:
-        return frames_of(packet.payload) or []
-    return list(packet.payload)
+def units_of(row: PacketRow, kind: int) -> Optional[Stretch]:
+    """The units of a row, frames of GSM or octets, one a sample; None for packets of another kind."""
+    if row.kind != kind:
+        return None
+    payload = row.payload or b""
+    if kind == GSM and not payload:
+        return EmptyFrames(row.packets)
+    return payload if kind != GSM or has_frames(payload) else None
 
 
 def without_wrong(
-    name: Path, packets: Iterable[Packet], partial: bool, counts: Counts
-) -> Iterator[Packet]:
+    name: Path, rows: Iterable[PacketRow], partial: bool, counts: Counts
+) -> Iterator[PacketRow]:
     """The packets whose payload is of their type. Another one is refused or, where `partial` says
     so and some are right, left out, so that it is missing."""
-    first: Optional[Packet] = None
+    first: Optional[PacketRow] = None
     has_right = False
-    for packet in packets:
-        if packet.kind == GSM and frames_of(packet.payload) is None:
-            counts.wrong += 1
-            first = first or packet
+    for row in rows:
+        if row.kind == GSM and not has_frames(row.payload or b""):
+            counts.wrong += row.packets
+            first = first or row
             if not partial:
                 break
         else:
-            has_right |= packet.kind == GSM
-            yield packet
+            has_right |= row.kind == GSM
+            yield row
     if first and not (partial and has_right):
-        said = rtp_packets.payload_said(first.payload)
+        said = rtp_packets.payload_said(first.payload or b"")
         more = "; --partial counts such packets as lost" if has_right else ""
         raise Refusal(f"{name}: packet {first.number} has no whole frames of GSM, but {said}{more}")
 
@@ -207,19 +228,19 @@ class Gaps:
     are_long: bool  # whether any length is taken
     passed: int = 0
 
-    def take(self, samples: int, packet: Packet) -> None:
-        """One more gap, before this packet."""
+    def take(self, samples: int, row: PacketRow) -> None:
+        """One more gap, before this row."""
         if self.are_long:
             return
         self.passed += max(0, samples)
         if samples > LONGEST_GAP:
             raise Refusal(
-                f"{self.name}: the time stamp of packet {packet.number} is {samples / SAMPLES_A_SECOND:.0f} s after the packet before;"
+                f"{self.name}: the time stamp of packet {row.number} is {samples / SAMPLES_A_SECOND:.0f} s after the packet before;"
                 f" at most {LONGEST_GAP // SAMPLES_A_SECOND} s are taken; --long-gaps takes any"
             )
         if self.passed > MOST_GAPS:
             raise Refusal(
-                f"{self.name}: up to packet {packet.number} the time stamps leave out {self.passed / SAMPLES_A_SECOND:.0f} s,"
+                f"{self.name}: up to packet {row.number} the time stamps leave out {self.passed / SAMPLES_A_SECOND:.0f} s,"
                 f" and at most {MOST_GAPS // SAMPLES_A_SECOND} s are taken; --long-gaps takes any"
             )
 
@@ -240,51 +261,59 @@ class Stretches:
 
     def __init__(self, gaps: Gaps, kind: int, counts: Counts) -> None:
         self.gaps, self.kind, self.counts = gaps, kind, counts
-        self.size = PCM_OCTETS if kind == GSM else 1
+        self.samples, self.octets = (PCM_OCTETS, GSM_OCTETS) if kind == GSM else (1, 1)  # of a unit
         self.place = 0  # after all units so far
         self.last: Optional[
             Tuple[int, float]
         ] = None  # where the packet captured last of those before begins, and its time
 
-    def start_of(self, packet: Packet) -> int:
+    def start_of(self, row: PacketRow) -> int:
         """Where a run begins whose first packet with speech this is: by the times of the capture,
         after what came before."""
         if self.last is None:
             return 0
         place, time = self.last
-        return max(self.place, place + round((packet.time - time) * SAMPLES_A_SECOND / self.size))
+        passed = round((row.time - time) * SAMPLES_A_SECOND / self.samples)
+        return max(self.place, place + passed)
 
-    def of_run(self, packets: Iterable[Packet]) -> Iterator[Stretch]:
+    def of_run(self, rows: Iterable[PacketRow]) -> Iterator[Stretch]:
         """The stretches of a run, from its first packet with speech on."""
         start, first = 0, None
         length, missing, following = 0, 0, 0
         latest: Optional[Tuple[float, int]] = None
-        for packet in in_order(packets, self.counts):
-            units = units_of(packet, self.kind)
-            missing += packet.sequence - following
-            following = packet.sequence + 1
-            if not units:
-                self.counts.others += 1
+        for row in in_order(rows, self.counts):
+            came = units_of(row, self.kind)
+            missing += row.sequence - following
+            following = row.sequence + row.packets
+            if not came:
+                self.counts.others += row.packets
                 continue
             if first is None:
-                start, first, missing = self.start_of(packet), packet.stamp, 0
-            begin = start + round((packet.stamp - first) / self.size)
-            self.gaps.take((begin - self.place) * self.size, packet)
+                start, first, missing = self.start_of(row), row.stamp, 0
+            begin = start + (row.stamp - first + self.samples // 2) // self.samples
+            units = came.units if isinstance(came, EmptyFrames) else len(came) // self.octets
+            self.gaps.take((begin - self.place) * self.samples, row)
             yield from gap(missing * length, begin - self.place)
-            over = min(len(units), max(0, self.place - begin))
-            self.counts.over += over
-            if over < len(units):
-                yield units[over:]
-            self.place, length, missing = max(self.place, begin + len(units)), len(units), 0
-            latest = max(latest or (packet.time, begin), (packet.time, begin))
+            yield from self.new_units(came, units, begin)
+            length, missing = units // row.packets, 0
+            last = row.last_time, begin + units - length
+            latest = max(latest or last, last)
         if latest:
             time, begin = latest
             self.last = (begin, time)
 
+    def new_units(self, came: Stretch, units: int, begin: int) -> Iterator[Stretch]:
+        """What follows the units before of so many units that begin at a place."""
+        over = min(units, max(0, self.place - begin))
+        self.counts.over += over
+        if over < units:
+            yield came[self.octets * over :] if isinstance(came, bytes) else came
+        self.place = max(self.place, begin + units)
+
 
 def stretches(
     name: Path,
-    streams: Iterable[Iterable[Packet]],
+    streams: Iterable[Iterable[PacketRow]],
     kind: int,
     restart: bool,
     counts: Counts,
@@ -292,6 +321,6 @@ def stretches(
 ) -> Iterator[Stretch]:
     """What streams carried, one after the other, from the first packet with speech on."""
     found = Stretches(Gaps(name, gaps_are_long), kind, counts)
-    for packets in streams:
-        for run in by_runs(name, packets, kind, restart, counts):
+    for rows in streams:
+        for run in by_runs(name, rows, kind, restart, counts):
             yield from found.of_run(run)

@@ -5,12 +5,15 @@ reason."""
 import mmap
 import struct
 from collections import Counter
+from dataclasses import dataclass, field
 from types import MappingProxyType
-from typing import Callable, Dict, Mapping, NamedTuple, Optional, Tuple
+from typing import Callable, Dict, Iterator, Mapping, NamedTuple, Optional, Tuple
 
+from trau.recordings import udp_layers
 from trau.recordings.capture_walk import BrokenCapture, CaptureOctets, Interfaces, walk
+from trau.recordings.packet_rows import SEQUENCES, OpenRow, PacketRow
 from trau.recordings.rtp_packets import TRAU_FRAMES
-from trau.recordings.speech_frames import CODE_WORD
+from trau.recordings.speech_frames import errors_of_frames
 from trau.recordings.udp_layers import CUT, Unread, udp_of
 from trau.rules import rtp
 from trau.rules.parameters import GSM_OCTETS
@@ -18,9 +21,17 @@ from trau.rules.payload_types import GSM
 
 RELEASED = 1 << 25  # octets of a mapped file after which those that were read are given back
 
-# The frequent head: without contributing sources, extension and padding.
-PLAIN_HEAD, UNPACK_HEAD = b"\x80", rtp.HEADER.unpack_from
-SEQUENCES = 1 << 16
+# The frequent packet, by its link: IPv4 without options, UDP, and RTP without contributing sources,
+# extension and padding. What is read of it: the type of IP; of IP the first octet, flags and offset
+# of a fragment, and the protocol; addresses and ports; the length of UDP; and the head of RTP.
+PLAIN_HEADS = {
+    link: struct.Struct(f">{at}x2s{start - at - 2}xs5xHxs2x12sH2xBBHII")
+    for link, (at, start) in udp_layers.TYPE_PLACES.items()
+}
+PLAIN = (udp_layers.IPV4_TYPE, udp_layers.PLAIN_IPV4, udp_layers.UDP, rtp.VERSION << 6)
+OFFSET_BITS = udp_layers.OFFSET_BITS << 8 | 0xFF
+PLAIN_LENGTH = udp_layers.UDP_HEAD + rtp.HEADER.size  # of UDP, without the payload
+
 # Numbers that may be missing; after a further jump the sender began anew (RFC 3550, appendix A.1).
 MOST_STEP = 3000
 RING = 64  # numbers that are known to have come or not
@@ -34,6 +45,8 @@ OTHER_GSMTAP = "of GSMTAP without TRAU frames of 16 kbit/s"
 
 Key = Tuple[bytes, int]  # addresses and ports, and the SSRC
 NO_RTP = "not RTP"
+# Of packets that needn't be named: those that were cut off are counted by their lengths.
+PLAIN_REASONS = (udp_layers.NOT_UDP, NO_RTP, udp_layers.CUT)
 MOST_STREAMS, TOO_MANY = 1 << 16, "of more streams than are taken"
 
 
@@ -49,14 +62,14 @@ class RtpPacket(NamedTuple):
 
 
 class CapturedStream:
-    """What is known of a stream of a capture. Times are in seconds since 1970."""
+    """What is known of a stream of a capture by its rows. Times are in seconds since 1970."""
 
     __slots__ = (
         *("number", "first", "last", "packets", "kinds", "missing", "late", "doubled", "restarts"),
         *("descriptors", "cut", "following", "ring", "sample"),
     )
 
-    def __init__(self, number: int, packet: RtpPacket, time: float) -> None:
+    def __init__(self, packet: RtpPacket, number: int, time: float) -> None:
         self.number = number  # of its first packet in the capture, from 1
         self.first = self.last = time
         self.packets = self.missing = self.late = self.doubled = self.restarts = 0
@@ -66,25 +79,28 @@ class CapturedStream:
         self.following = packet.sequence  # the number that is next
         self.ring = 0  # bit k: whether the number following - 1 - k came
 
-    def take(self, packet: RtpPacket, time: float) -> None:
-        """One more packet."""
-        _, kind, sequence, _, payload = packet
-        self.packets += 1
-        self.last = time
-        self.kinds[kind] = self.kinds.get(kind, 0) + 1
-        if sequence == self.following:
-            self.ring = self.ring << 1 & RING_BITS | 1
-            self.following = sequence + 1
+    def take(self, row: PacketRow) -> None:
+        """One more row."""
+        self.packets += row.packets
+        self.last = row.last_time
+        self.kinds[row.kind] = self.kinds.get(row.kind, 0) + row.packets
+        self.count_number(row.sequence)
+        if self.following == row.sequence + 1:
+            more = row.packets - 1
+            self.following += more
+            self.ring = (self.ring + 1 << more) - 1 & RING_BITS
         else:
-            self.count_step((sequence - self.following) % SEQUENCES, sequence)
-        if payload is None:
-            self.cut += 1
-        elif kind == GSM and len(payload) == GSM_OCTETS:
-            errors = int.from_bytes(payload, "big") & CODE_WORD
-            self.descriptors += errors & errors - 1 == 0
+            for number in range(row.sequence + 1, row.sequence + row.packets):
+                self.count_number(number)
+        if row.payload is None:
+            self.cut += row.packets
+        elif row.kind == GSM and len(row.payload) == GSM_OCTETS * row.packets:
+            errors = errors_of_frames(row.payload)
+            self.descriptors += errors.count(0) + errors.count(1)
 
-    def count_step(self, step: int, sequence: int) -> None:
-        """Counts a number that isn't the next one, or is it where numbers begin again."""
+    def count_number(self, sequence: int) -> None:
+        """Counts a packet by its number."""
+        step = (sequence - self.following) % SEQUENCES
         if step < MOST_STEP:
             self.missing += step
             self.ring = (self.ring << step + 1 | 1) & RING_BITS
@@ -118,18 +134,28 @@ class CaptureScan(NamedTuple):
     begins: float
 
 
-Take = Callable[[RtpPacket, float, int], None]  # a packet, its time, and its number in the capture
+Take = Callable[[Key, PacketRow], None]  # a row of a stream
+
+
+def rtp_at(data: CaptureOctets, place: int, captured: int, link: int) -> RtpPacket:
+    """The packet of RTP in so many octets of a capture from a place on."""
+    head = PLAIN_HEADS.get(link)
+    if head and captured >= head.size:
+        found = head.unpack_from(data, place)
+        ip, version, offset, protocol, flow, length, first, second, number, stamp, source = found
+        if (ip, version, protocol, first) == PLAIN and not offset & OFFSET_BITS:
+            kind = second & rtp.TYPE_BITS
+            size = length - PLAIN_LENGTH
+            if size >= 0 and not rtp.FIRST_RTCP <= kind <= rtp.LAST_RTCP:
+                begin, end = place + head.size, place + head.size + size
+                payload = data[begin:end] if end <= place + captured else None
+                return RtpPacket((flow, source), kind, number, stamp, payload)
+    return rtp_of(data[place : place + captured], link)
 
 
 def rtp_of(octets: bytes, link: int) -> RtpPacket:
     """The packet of RTP in the octets of a packet."""
     flow, content, size = udp_of(octets, link)
-    if content[:1] == PLAIN_HEAD and len(content) >= rtp.HEADER.size:
-        _, second, number, stamp, source = UNPACK_HEAD(content)
-        kind = second & rtp.TYPE_BITS
-        if not rtp.FIRST_RTCP <= kind <= rtp.LAST_RTCP:
-            plain = content[rtp.HEADER.size :] if len(content) >= size else None
-            return RtpPacket((flow, source), kind, number, stamp, plain)
     if content[: len(GSMTAP_E1)] == GSMTAP_E1 and flow.endswith(GSMTAP_PORT):
         return trau_frame_of(flow, content)
     try:
@@ -155,33 +181,105 @@ def trau_frame_of(flow: bytes, content: bytes) -> RtpPacket:
 
 # The pass
 
+# A packet of RTP: its number in the capture from 1, its time in seconds since 1970, whether less of
+# it was captured than sent, and what it says.
+PassedPacket = Tuple[int, float, bool, RtpPacket]
+
+
+@dataclass
+class CapturePass:
+    """A pass over the packets of a capture: packets that aren't read, by why; how many there are,
+    and of how many a part wasn't captured; when the first was captured; what is wrong where the
+    capture breaks off; and what is done from time to time, given how many octets are read."""
+
+    data: CaptureOctets
+    passed: Callable[[int], None] = lambda octets: None
+    unread: Counter = field(default_factory=Counter)
+    packets: int = 0
+    short: int = 0
+    begins: Optional[float] = None
+    broken: str = ""
+
+    def rtp(self) -> Iterator[PassedPacket]:
+        """The packets of RTP."""
+        interfaces: Interfaces = []
+        time, release = 0.0, RELEASED
+        try:
+            for ticks, which, place, captured, sent in walk(self.data, interfaces):
+                self.packets += 1
+                self.short += captured < sent
+                if place > release:
+                    release = place + RELEASED
+                    self.release(place)
+                link, a_second, offset = interfaces[which]
+                if ticks is not None:
+                    time = ticks / a_second + offset
+                if self.begins is None:
+                    self.begins = time
+                try:
+                    packet = rtp_at(self.data, place, captured, link)
+                except Unread as why:
+                    self.unread[str(why)] += 1
+                    continue
+                yield self.packets, time, captured < sent, packet
+        except BrokenCapture as failure:
+            self.broken = str(failure)
+
+    def release(self, place: int) -> None:
+        """Gives the pages of a mapped file back that precede a place; else they would count as this
+        process's memory."""
+        if isinstance(self.data, mmap.mmap) and hasattr(mmap, "MADV_DONTNEED"):
+            self.data.madvise(mmap.MADV_DONTNEED, 0, place & -mmap.PAGESIZE)
+        self.passed(place)
+
+    def cut_off(self) -> str:
+        """How many packets were cut off, in words that follow others."""
+        said = f"; {self.short} of {self.packets} packets are cut off (the captured length is below the length on the wire)"
+        return said if self.short else ""
+
+    def unread_said(self) -> str:
+        """The packets that aren't read and are unusual, in words; empty without any."""
+        odd = {why: count for why, count in self.unread.items() if why not in PLAIN_REASONS}
+        return ", ".join(f"{count} packets {why}" for why, count in odd.items())
+
 
 class StreamTable:
-    """The streams so far, and what isn't read."""
+    """The streams so far, and their rows that may go on."""
 
     def __init__(self, take: Optional[Take], types: Mapping[int, int]) -> None:
         self.streams: Dict[Key, CapturedStream] = {}
-        self.unread: Counter = Counter()
-        self.take_packet, self.types = take, types
+        self.open: Dict[Key, OpenRow] = {}
+        self.too_many = 0  # packets of streams that aren't taken
+        self.take_row, self.types = take, types
 
-    def take(self, octets: bytes, link: int, time: float, number: int) -> None:
+    def take(self, packet: RtpPacket, number: int, time: float) -> None:
         """One more packet of the capture."""
-        try:
-            packet = rtp_of(octets, link)
-        except Unread as why:
-            self.unread[str(why)] += 1
-            return
-        if packet.kind in self.types:
-            packet = packet._replace(kind=self.types[packet.kind])
-        stream = self.streams.get(packet.key)
-        if stream is None:
-            if len(self.streams) >= MOST_STREAMS:
-                self.unread[TOO_MANY] += 1
+        key, kind, sequence, stamp, payload = packet
+        if kind in self.types:
+            kind = self.types[kind]
+        row = self.open.get(key)
+        if row is not None:
+            if row.takes(kind, sequence, stamp, payload, number, time):
                 return
-            stream = self.streams[packet.key] = CapturedStream(number, packet, time)
-        stream.take(packet, time)
-        if self.take_packet is not None:
-            self.take_packet(packet, time, number)
+            self.close(key)
+        elif key not in self.streams:
+            if len(self.streams) >= MOST_STREAMS:
+                self.too_many += 1
+                return
+            self.streams[key] = CapturedStream(packet, number, time)
+        self.open[key] = OpenRow(kind, sequence, stamp, payload, number, time)
+
+    def close(self, key: Key) -> None:
+        """Ends the open row of a stream."""
+        row = self.open.pop(key).row()
+        self.streams[key].take(row)
+        if self.take_row is not None:
+            self.take_row(key, row)
+
+    def close_all(self) -> None:
+        """Ends all open rows, so that little of a capture waits in the memory."""
+        for key in list(self.open):
+            self.close(key)
 
 
 def scan_capture(
@@ -190,31 +288,21 @@ def scan_capture(
     passed: Callable[[int], None] = lambda octets: None,
     types: Mapping[int, int] = MappingProxyType({}),
 ) -> CaptureScan:
-    """The streams of a capture, in which payload types may stand for others; `take` gets each
-    packet of RTP with its time and number, `passed` from time to time how many octets are read."""
-    interfaces: Interfaces = []
+    """The streams of a capture, in which payload types may stand for others; `take` gets the rows
+    of each stream, `passed` from time to time how many octets are read."""
     table = StreamTable(take, types)
-    number, release, time, broken = 0, RELEASED, 0.0, ""
-    begins: Optional[float] = None
-    try:
-        for ticks, which, place, captured, _ in walk(data, interfaces):
-            number += 1
-            if place > release:
-                release = place + RELEASED
-                let_go(data, place)
-                passed(place)
-            link, a_second, offset = interfaces[which]
-            if ticks is not None:
-                time = ticks / a_second + offset
-            begins = time if begins is None else begins
-            table.take(data[place : place + captured], link, time, number)
-    except BrokenCapture as failure:
-        broken = str(failure)
-    return CaptureScan(table.streams, dict(table.unread), broken, number, begins or 0.0)
 
+    def released(octets: int) -> None:
+        """What is done each time that so many octets are read."""
+        table.close_all()
+        passed(octets)
 
-def let_go(data: CaptureOctets, place: int) -> None:
-    """Gives the pages of a mapped file back that precede a place; else they would count as this
-    process's memory."""
-    if isinstance(data, mmap.mmap) and hasattr(mmap, "MADV_DONTNEED"):
-        data.madvise(mmap.MADV_DONTNEED, 0, place & -mmap.PAGESIZE)
+    found = CapturePass(data, released)
+    for number, time, _, packet in found.rtp():
+        table.take(packet, number, time)
+    table.close_all()
+    if table.too_many:
+        found.unread[TOO_MANY] += table.too_many
+    return CaptureScan(
+        table.streams, dict(found.unread), found.broken, found.packets, found.begins or 0.0
+    )

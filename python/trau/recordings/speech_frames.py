@@ -1,9 +1,9 @@
-"""Frames of GSM full rate (33 octets) that are plain speech, as frames of an uplink, in a few
-microseconds each: the bits of each octet go where a table says. `UplinkFrames` has the rules; this
-has their most frequent case."""
+"""Frames of GSM full rate (33 octets) that are plain speech, as frames of an uplink, many at once:
+an octet of all frames is a column, and tables say which bits it gives to which columns of the
+uplink's. `UplinkFrames` has the rules; this has their most frequent case."""
 
 from functools import lru_cache
-from typing import List
+from typing import Dict, List, Tuple
 
 from trau.recordings.code_word import CODE_WORD_BITS, LEAST_ERRORS_OF_SPEECH
 from trau.rules.frame import FrameKind, UpFrame, octets_of, write_up
@@ -24,52 +24,83 @@ def code_word() -> int:
 CODE_WORD = code_word()
 
 
-def number_of_frame(data: str, dtxd: bool = False) -> int:
-    """A good speech frame of an uplink, as a number."""
-    frame = write_up(UpFrame(FrameKind.SPEECH, dtxd=dtxd, data=data))
-    return int.from_bytes(octets_of(frame), "big")
+BITS_SET = bytes(bin(octet).count("1") for octet in range(256))
+IS_SPEECH = bytes(errors >= LEAST_ERRORS_OF_SPEECH for errors in range(256))
 
 
-WITHOUT_DATA = [number_of_frame(NO_DATA, dtxd) for dtxd in (False, True)]
+def errors_of_frames(frames: bytes) -> bytes:
+    """How many bits of the code word are wrong in each of some frames of 33 octets."""
+    size = len(frames)
+    code_words = int.from_bytes(CODE_WORD.to_bytes(GSM_OCTETS, "big") * (size // GSM_OCTETS), "big")
+    wrong = (int.from_bytes(frames, "big") & code_words).to_bytes(size, "big")
+    # Each octet gets the sum of those of 32 octets up to it. A frame's first octet has no bit of
+    # the code word, so that its last one gets all of the frame; no sum is more than an octet holds.
+    counts = int.from_bytes(wrong.translate(BITS_SET), "big")
+    for octets in (1, 2, 4, 8, 16):
+        counts += counts >> 8 * octets
+    return counts.to_bytes(size, "big")[GSM_OCTETS - 1 :: GSM_OCTETS]
 
 
-def bits_of_octet(at: int) -> List[int]:
-    """What each bit of an octet of GSM's frames becomes in an uplink's frame, the highest bit
-    first; the magic becomes nothing."""
+def are_speech(frames: bytes) -> bytes:
+    """Which of some frames are speech and no silence descriptors, by their code words: 1 or 0 for
+    each."""
+    return errors_of_frames(frames).translate(IS_SPEECH)
+
+
+# To frames of an uplink
+
+
+def frame_with(data: str, dtxd: bool = False) -> bytes:
+    """A good speech frame of an uplink."""
+    return octets_of(write_up(UpFrame(FrameKind.SPEECH, dtxd=dtxd, data=data)))
+
+
+WITHOUT_DATA = [frame_with(NO_DATA, dtxd) for dtxd in (False, True)]
+
+
+def bits_of_octet(at: int) -> List[Tuple[int, int]]:
+    """Where each bit of an octet of GSM's frames is in an uplink's frame, the highest bit first: an
+    octet, and the bit in it. The magic is nowhere: it gives no bit."""
     found = []
     for bit in range(8):
         octets = bytearray(GSM_OCTETS)
         octets[at] = 0x80 >> bit
         is_magic = 8 * at + bit < GSM_HEAD_BITS
-        data = NO_DATA if is_magic else data_of_gsm(bytes(octets))
-        found.append(number_of_frame(data) ^ WITHOUT_DATA[0])
+        frame = frame_with(NO_DATA if is_magic else data_of_gsm(bytes(octets)))
+        changed = [each ^ other for each, other in zip(frame, WITHOUT_DATA[0])]
+        place = next((place for place, bits in enumerate(changed) if bits), 0)
+        found.append((place, changed[place]))
     return found
 
 
-def table_of_octet(at: int) -> List[int]:
-    """What each value of an octet of GSM's frames becomes in an uplink's frame."""
-    bits = bits_of_octet(at)
-    return [
-        sum(number for bit, number in enumerate(bits) if octet & 0x80 >> bit)
-        for octet in range(256)
-    ]
-
-
 @lru_cache(maxsize=1)
-def tables() -> List[List[int]]:
-    """The tables of all octets of GSM's frames."""
-    return [table_of_octet(at) for at in range(GSM_OCTETS)]
+def tables() -> List[Dict[int, bytes]]:
+    """By octet of an uplink's frame: what each octet of GSM's frames gives to it, as a table of the
+    octet's values."""
+    found: List[Dict[int, bytes]] = [{} for _ in range(FRAME_OCTETS)]
+    for at in range(GSM_OCTETS):
+        bits = bits_of_octet(at)
+        for place in {place for place, gives in bits if gives}:
+            found[place][at] = bytes(
+                sum(
+                    gives
+                    for bit, (to, gives) in enumerate(bits)
+                    if to == place and octet & 0x80 >> bit
+                )
+                for octet in range(256)
+            )
+    return found
 
 
-def is_plain_speech(frame: bytes) -> bool:
-    """Whether a frame is speech and no silence descriptor, by its code word."""
-    errors = int.from_bytes(frame, "big") & CODE_WORD
-    return bin(errors).count("1") >= LEAST_ERRORS_OF_SPEECH
-
-
-def uplink_of_speech(frame: bytes, dtxd: bool) -> bytes:
-    """The good speech frame of an uplink that has a frame's bits."""
-    number = WITHOUT_DATA[dtxd]
-    for table, octet in zip(tables(), frame):
-        number |= table[octet]
-    return number.to_bytes(FRAME_OCTETS, "big")
+def uplinks_of_speech(frames: bytes, dtxd: bool) -> bytes:
+    """The good speech frames of an uplink that have the bits of frames of 33 octets."""
+    count = len(frames) // GSM_OCTETS
+    columns = [frames[at::GSM_OCTETS] for at in range(GSM_OCTETS)]
+    made = bytearray(WITHOUT_DATA[dtxd] * count)
+    for place, given in enumerate(tables()):
+        if given:
+            column = int.from_bytes(WITHOUT_DATA[dtxd][place : place + 1] * count, "big")
+            for at, table in given.items():
+                column |= int.from_bytes(columns[at].translate(table), "big")
+            made[place::FRAME_OCTETS] = column.to_bytes(count, "big")
+    return bytes(made)

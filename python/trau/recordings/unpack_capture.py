@@ -12,9 +12,10 @@ from typing import BinaryIO, Dict, Iterable, Iterator, List, NamedTuple, Optiona
 from trau.command_line.words import Refusal
 from trau.recordings import capture_rows, captures
 from trau.recordings.code_word import Marker
-from trau.recordings.rtp_packets import NAMES, Packet
+from trau.recordings.packet_rows import PacketRow
+from trau.recordings.rtp_packets import NAMES
 from trau.recordings.rtp_streams import Counts, stretches, without_wrong
-from trau.recordings.rtp_walk import CapturedStream, CaptureScan, Key, RtpPacket
+from trau.recordings.rtp_walk import CapturedStream, CaptureScan, Key
 from trau.recordings.udp_layers import other_way
 from trau.recordings.unpacked_folder import (
     UnpackedCall,
@@ -28,8 +29,8 @@ from trau.rules.lines import OCTETS_OF_SIDE, PCM, UP
 from trau.rules.payload_types import GSM
 from trau.rules.profile import PERIODS_A_SECOND
 
-# A packet in a stream's file: number, kind, sequence, time stamp, time, octets of the payload.
-PACKET = struct.Struct("<QBHIdI")
+# A row in a stream's file: its fields but for the payload, and the payload's octets.
+ROW = struct.Struct("<HHQHIdIQdI")
 MOST_HELD = 1 << 16  # octets of a stream that wait for its file
 MOST_HELD_IN_ALL = 1 << 25
 BY_ADDRESSES = "addresses"
@@ -44,19 +45,19 @@ class PacketFiles:
         self.names: Dict[Key, Path] = {}
         self.octets = 0
 
-    def take(self, packet: RtpPacket, time: float, number: int) -> None:
-        """Takes a packet. One that was cut off is lost."""
-        payload = packet.payload if packet.kind in NAMES else b""
+    def take(self, key: Key, row: PacketRow) -> None:
+        """Takes a row. Packets that were cut off are lost."""
+        *others, payload = row
         if payload is None:
             return
-        held = self.held.get(packet.key)
+        held = self.held.get(key)
         if held is None:
-            held = self.held[packet.key] = bytearray()
-        held += PACKET.pack(number, packet.kind, packet.sequence, packet.stamp, time, len(payload))
+            held = self.held[key] = bytearray()
+        held += ROW.pack(*others, len(payload))
         held += payload
-        self.octets += PACKET.size + len(payload)
+        self.octets += ROW.size + len(payload)
         if len(held) >= MOST_HELD:
-            self.write(packet.key)
+            self.write(key)
         elif self.octets >= MOST_HELD_IN_ALL:
             for key in list(self.held):
                 self.write(key)
@@ -70,12 +71,12 @@ class PacketFiles:
                 file.write(held)
             self.octets -= len(held)
 
-    def packets(self, key: Key) -> Iterator[Packet]:
+    def rows(self, key: Key) -> Iterator[PacketRow]:
         """The packets of a stream, in the order in which they were captured."""
         self.write(key)
         if key in self.names:
             with open(self.names[key], "rb") as file:
-                yield from packets_in(file)
+                yield from rows_in(file)
 
     def remove(self) -> None:
         """Removes the files."""
@@ -83,11 +84,11 @@ class PacketFiles:
             os.unlink(name)
 
 
-def packets_in(file: BinaryIO) -> Iterator[Packet]:
+def rows_in(file: BinaryIO) -> Iterator[PacketRow]:
     """The packets of a stream's file."""
-    for head in iter(lambda: file.read(PACKET.size), b""):
-        number, kind, sequence, stamp, time, size = PACKET.unpack(head)
-        yield Packet(number, kind, sequence, stamp, file.read(size), time)
+    for head in iter(lambda: file.read(ROW.size), b""):
+        *others, size = ROW.unpack(head)
+        yield PacketRow._make([*others, file.read(size)])
 
 
 class StreamWish(NamedTuple):
@@ -98,10 +99,10 @@ class StreamWish(NamedTuple):
     keeps_descriptors: bool
 
 
-def chunks_of(packets: Iterable[Packet], kind: int, wish: StreamWish) -> Iterator[bytes]:
+def chunks_of(rows: Iterable[PacketRow], kind: int, wish: StreamWish) -> Iterator[bytes]:
     """The line of the packets of a stream, an uplink or a Pcm line of its own law, as it is made."""
     counts = Counts()
-    right = without_wrong(wish.name, packets, True, counts)
+    right = without_wrong(wish.name, rows, True, counts)
     found = stretches(wish.name, [right], kind, True, counts)
     if kind == GSM:
         marker = Marker(wish.keeps_descriptors)
@@ -208,7 +209,7 @@ def write_streams(
     refused = []
     for each in streams:
         try:
-            write_stream(each, chunks_of(files.packets(each.key), each.kind, wish), folder)
+            write_stream(each, chunks_of(files.rows(each.key), each.kind, wish), folder)
         except Refusal as refusal:
             folder.path(each.call, each.line.side).unlink()
             reason = str(refusal).partition(": ")[2]

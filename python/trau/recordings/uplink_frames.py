@@ -1,13 +1,14 @@
 """The frames of an uplink that is made of full rate frames, as a base station sends them: what
 came, unusable frames for what didn't, and idle frames."""
 
-from typing import Iterable, Optional
+from itertools import groupby
+from typing import Iterable, List, Optional, Tuple
 
 from trau.recordings.code_word import Marker
-from trau.recordings.speech_frames import is_plain_speech, uplink_of_speech
+from trau.recordings.speech_frames import are_speech, uplinks_of_speech
 from trau.rules.frame import FrameKind, UpFrame, frame_of, octets_of, write_up
-from trau.rules.parameters import SILENCE, bits_of_parameters, data_of_gsm
-from trau.rules.profile import TAF_PERIODS, UP_IDLE
+from trau.rules.parameters import GSM_OCTETS, SILENCE, bits_of_parameters, data_of_gsm
+from trau.rules.profile import FRAME_OCTETS, TAF_PERIODS, UP_IDLE
 
 
 def unusable(taf: bool) -> bytes:
@@ -27,6 +28,10 @@ class UplinkFrames:
     def __init__(self, marker: Marker) -> None:
         self.marker = marker
         self.frames = bytearray()
+        # Plain speech becomes frames together at the end: until then its frames of 33 octets are
+        # here, and zeros where they belong, at these places, so many octets.
+        self.speech = bytearray()
+        self.places: List[Tuple[int, int]] = []
         self.since: Optional[int] = None  # frames since the last descriptor of a pause
 
     def pauses(self) -> bool:
@@ -65,29 +70,50 @@ class UplinkFrames:
             else:
                 self.take(data)
 
-    def take_gsm(self, frames: Iterable[bytes]) -> None:
-        """Frames that came, of 33 octets, and empty ones for those that didn't."""
-        for frame in frames:
-            if not frame:
-                self.lose()
-            elif self.marker.keeps or is_plain_speech(frame):
-                self.marker.counts[FrameKind.SPEECH] += 1
-                self.since = None
-                self.frames += uplink_of_speech(frame, self.marker.dtxd)
+    def take_gsm(self, frames: bytes) -> None:
+        """Frames that came, of 33 octets each."""
+        count = len(frames) // GSM_OCTETS
+        plain = b"\1" * count if self.marker.keeps else are_speech(frames)
+        start = 0
+        for is_plain, group in groupby(plain) if 0 in plain else ((1, plain),):
+            end = start + GSM_OCTETS * len(bytes(group))
+            if is_plain:
+                self.take_speech(frames[start:end])
             else:
-                self.take(data_of_gsm(frame))
+                for place in range(start, end, GSM_OCTETS):
+                    self.take(data_of_gsm(frames[place : place + GSM_OCTETS]))
+            start = end
+
+    def take_speech(self, frames: bytes) -> None:
+        """Frames of plain speech that came, of 33 octets each."""
+        count = len(frames) // GSM_OCTETS
+        self.marker.counts[FrameKind.SPEECH] += count
+        self.since = None
+        self.places.append((len(self.frames), FRAME_OCTETS * count))
+        self.frames += bytes(FRAME_OCTETS * count)
+        self.speech += frames
 
     def idle(self, count: int) -> None:
         """Idle frames."""
         self.since = None
         self.frames += count * IDLE
 
+    def octets(self) -> int:
+        """The octets of the frames that weren't taken yet."""
+        return len(self.frames)
+
     def line(self) -> bytes:
         """The frames, one after the other."""
+        octets, start = uplinks_of_speech(bytes(self.speech), self.marker.dtxd), 0
+        for place, size in self.places:
+            self.frames[place : place + size] = octets[start : start + size]
+            start += size
+        self.speech.clear()
+        self.places.clear()
         return bytes(self.frames)
 
     def drained(self) -> bytes:
         """The frames that weren't taken yet; the line goes on with none."""
-        frames = bytes(self.frames)
+        frames = self.line()
         self.frames.clear()
         return frames

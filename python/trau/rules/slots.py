@@ -1,7 +1,8 @@
 """Time slots of 64 kbit/s with four channels of 16 kbit/s (CCITT I.460, docs/FILES.md, "Time
 slots")."""
 
-from typing import List, Sequence
+from functools import lru_cache
+from typing import List, Sequence, Tuple
 
 from trau.rules.profile import CHANNELS
 
@@ -10,15 +11,6 @@ MOST_SLOTS = 256
 
 # Each octet with its bits in the other order.
 TURNED = bytes(int(f"{octet:08b}"[::-1], 2) for octet in range(256))
-# Tables that take one of the four pairs of bits of an octet to a place among four, the first bits
-# first.
-PAIR_TO = [
-    [
-        bytes((octet >> 6 - 2 * pair & 3) << 6 - 2 * place for octet in range(256))
-        for place in range(4)
-    ]
-    for pair in range(4)
-]
 
 
 def octets_turned(octets: bytes) -> bytes:
@@ -37,32 +29,61 @@ def octets_from(octets: bytes, bit: int) -> bytes:
     )
 
 
-def joined(parts: Sequence[bytes]) -> bytes:
-    """The bits that are 1 in any of some octets of equal length."""
-    whole = 0
-    for part in parts:
-        whole |= int.from_bytes(part, "big")
-    return whole.to_bytes(len(parts[0]), "big")
+# Octets of lines that are transposed at a time: longer numbers leave the processor's caches.
+TRANSPOSED = 1 << 17
+
+
+@lru_cache(maxsize=8)
+def masks(size: int, slots: int) -> Tuple[int, int]:
+    """Of so many octets: the last two pairs of the first two rows of each group of frames, and the
+    second and the fourth pair of each first row of two."""
+    half = (b"\x0f" * 2 * slots + bytes(2 * slots)) * (size // (CHANNELS * slots))
+    single = (b"\x33" * slots + bytes(slots)) * (size // (2 * slots))
+    return int.from_bytes(half, "big"), int.from_bytes(single, "big")
+
+
+def transposed(octets: bytes, slots: int) -> bytes:
+    """Groups of four frames of a line, or of four octets of a slot, with rows and columns of pairs
+    of bits exchanged. The rows of a slot are its four octets in a group, the pairs of a row belong
+    to its four channels. Then row k has the octet of channel k. What is done twice is undone.
+
+    First the quarters beside the diagonal change places, then within each quarter the pairs beside
+    its diagonal do: all of them at once, in one number."""
+    row = 8 * slots
+    bits = int.from_bytes(octets, "big")
+    half, single = masks(len(octets), slots)
+    for mask, distance in ((half, 2 * row - 4), (single, row - 2)):
+        differ = (bits ^ bits << distance) & mask
+        bits ^= differ ^ differ >> distance
+    return bits.to_bytes(len(octets), "big")
+
+
+def channels_of_line(octets: bytes, slots: int) -> bytes:
+    """The octets of all channels of a line, of its whole groups of four frames: those of channel k
+    of slot s are each `4 * slots`th one from `k * slots + s` on."""
+    group = CHANNELS * slots
+    end = len(octets) // group * group
+    step = max(1, TRANSPOSED // group) * group
+    parts = (octets[start : min(start + step, end)] for start in range(0, end, step))
+    return b"".join(transposed(part, slots) for part in parts)
 
 
 def channel_octets(slot: bytes, number: int) -> bytes:
     """The octets of a channel of a slot; four octets of the slot carry one, its first bits
     first."""
-    whole = slot[: len(slot) // CHANNELS * CHANNELS]
-    columns = (whole[place::CHANNELS] for place in range(CHANNELS))
-    return joined([column.translate(PAIR_TO[number][at]) for at, column in enumerate(columns)])
+    return channels_of_line(slot, 1)[number::CHANNELS]
 
 
 def split(slot: bytes) -> List[bytes]:
     """The octets of the four channels that a slot carries, of its whole groups of four octets."""
-    return [channel_octets(slot, number) for number in range(CHANNELS)]
+    octets = channels_of_line(slot, 1)
+    return [octets[number::CHANNELS] for number in range(CHANNELS)]
 
 
 def merge(channels: Sequence[bytes]) -> bytes:
     """The slot that carries four channels of equal length: four of its octets for each octet of a
     channel."""
     slot = bytearray(CHANNELS * len(channels[0]))
-    for place, tables in enumerate(PAIR_TO):
-        parts = [octets.translate(tables[at]) for at, octets in enumerate(channels)]
-        slot[place::CHANNELS] = joined(parts)
-    return bytes(slot)
+    for number, octets in enumerate(channels):
+        slot[number::CHANNELS] = octets
+    return channels_of_line(bytes(slot), 1)
