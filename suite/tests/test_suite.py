@@ -8,7 +8,7 @@ import sys
 import tempfile
 import unittest
 from pathlib import Path
-from typing import Dict, List, Optional
+from typing import Dict, List, Optional, Sequence
 from xml.etree import ElementTree
 
 from trau.suite import edits, edits_run, matrix, peers, tables
@@ -167,35 +167,68 @@ class Edits(unittest.TestCase):
 
     def setUp(self) -> None:
         self.reasons = edits_run.read_reasons()
-        self.all = edits.all_edits(())
-        self.tried = edits.all_edits(list(self.reasons["left out"]))
+        self.all = edits.all_edits()
 
     def test_names(self) -> None:
         names = [edit.name() for edit in self.all]
         self.assertEqual(len(set(names)), len(names))
-        self.assertGreater(len(self.tried), 300)
+        self.assertGreater(len(names), 500)
 
     def test_reasons(self) -> None:
         """Each reason is for an edit that there is."""
-        names = {edit.name() for edit in self.tried}
-        for kind in edits_run.KINDS:
-            self.assertLessEqual(set(self.reasons[kind]), names)
-        for place in self.reasons["left out"]:
-            found = edits.all_edits([place])
-            self.assertLess(len(found), len(self.all), place)
+        self.assertLessEqual(set(self.reasons), {edit.name() for edit in self.all})
+
+    def caught_by(self, words: Sequence[str], *chosen: str) -> Dict[str, Optional[str]]:
+        """The cases that catch edits, among those whose names begin with these words. The edits
+        are chosen by the beginnings of their names."""
+        tried = [edit for edit in self.all if edit.name().startswith(chosen)]
+        caught = edits.try_all(tried, expected_cases(1, words), 2)
+        return {edit.name(): case for edit, case in caught}
 
     def test_caught(self) -> None:
         """By a case of the operations in which the module's edits show."""
-        places = ("recordings.code_word.LEAST_ERRORS_OF_INVALID", "rules.g711.octet")
-        expected = expected_cases(
-            1, ("kind/wrong-1", "kind/wrong-2", "alaw-expand", "mulaw-expand")
-        )
-        chosen = [edit for edit in self.tried if f"{edit.module}.{edit.place}" in places]
-        self.assertGreater(len(chosen), 5)
-        for edit, case in edits.try_all(chosen, expected, 2):
+        words = ("kind/wrong-1", "kind/wrong-2", "alaw-expand", "mulaw-expand")
+        places = ("recordings.code_word.LEAST_ERRORS_OF_INVALID", "rules.g711.octet:")
+        caught = self.caught_by(words, *places)
+        self.assertGreater(len(caught), 5)
+        for name, case in caught.items():
             operation = (case or "").partition("/")[0]
-            self.assertIn(operation, edits.OPERATIONS_OF[edit.module], edit)
+            self.assertIn(operation, edits.OPERATIONS_OF[".".join(name.split(".")[:2])], name)
 
+    def test_bounds_that_were_sought(self) -> None:
+        """Each sound that was sought for a bound catches an edit of it."""
+        for word, *names in SOUGHT:
+            caught = self.caught_by([word], *names)
+            self.assertGreaterEqual(len(caught), len(names), word)
+            self.assertEqual(set(caught.values()), {word}, names)
+
+
+# Sounds that were sought, each with an edit that it is there to catch.
+SOUGHT = (
+    ("encode/bound-1542", "model.codec.weighted: 4096 in"),
+    (
+        "encode/bound-1110",
+        "rules.preprocessing.Preprocessing.__init__: 0 -> 1 (number 2)",
+        "rules.preprocessing.Preprocessing.run: 16384 in",
+    ),
+    ("encode/last-samples-665", "model.codec.reflection_coefficients: 0 in correlations[0] -> 1"),
+    ("encode/last-samples-67794", "model.codec.A: 8534 in"),
+    ("encode/quarters-369", "rules.arithmetic.div: 0 -> 1"),
+    ("encode/quarters-55117", "rules.arithmetic.mult_r: 16384 in"),
+    ("encode/faint-3429", "model.codec.lag_and_gain: 0 in greatest <= 0 -> 1"),
+    ("encode/loud-noise-49", "model.codec.DLB: 16384 in"),
+    ("encode/loud-noise-273", "model.codec.NRFAC: 18725 in"),
+    ("encode/loud-noise-1120", "model.codec.NRFAC: 21846 in"),
+    ("encode/loud-noise-1798", "model.codec.NRFAC: 29128 in"),
+    ("encode/loud-noise-3226", "model.codec.NRFAC: 26215 in"),
+    ("encode/loud-noise-5373", "model.codec.NRFAC: 23832 in"),
+    ("encode/loud-noise-7673", "model.codec.NRFAC: 20165 in"),
+    (
+        "send/mean-on-a-bound",
+        "model.codec.log_area_ratio: size < 31130 in",
+        "model.codec.log_area_ratio: 31130 in size < 31130 ->",
+    ),
+)
 
 COMMAND = """
 import sys
@@ -241,6 +274,12 @@ class Peers(unittest.TestCase):
         suite = ElementTree.fromstring(tables.junit_of(rows))[0]
         self.assertEqual(suite.get("failures"), "1")
         self.assertIn("broken: kind/each-pair", tables.html_of(rows, RULES))
+        peers, rules, broken = tables.markdown_of(rows, RULES).split("\n\n")
+        name = rows[0].peer.name
+        self.assertIn(f"| `{name}` | - | 3 | 4 | 1 |", peers)
+        self.assertIn("| `decoder.lag-gain` | exact | - |", rules)
+        self.assertNotIn("lost.muted", rules)
+        self.assertIn(f"| `{name}` | `kind.invalid` | kind/each-pair, 0 |", broken)
 
     def test_command_that_fails(self) -> None:
         peer = peers.by_command("false", False)

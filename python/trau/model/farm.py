@@ -13,7 +13,7 @@ from typing import Dict, List, Mapping, NamedTuple, Optional, Sequence
 from trau.rules import profile, report
 from trau.rules.board import Board, Bridge
 from trau.rules.lines import DOWN, INCOMING, OCTETS_OF_SIDE, OUT, SIDES
-from trau.rules.orders import Order
+from trau.rules.orders import Order, Verb
 from trau.rules.report import COUNTS, FailedLine, Reply, Report
 
 from trau.model.call import (
@@ -115,7 +115,7 @@ def executed(orders: Sequence[Order], periods: int) -> List[Order]:
 def openings(orders: Sequence[Order]) -> Dict[int, int]:
     """The opening of each call, by number: the stamp of its first `open`, which is never refused
     (docs/OPERATORS.md, "When an order takes effect")."""
-    return {order.calls[0]: order.stamp for order in reversed(orders) if order.verb == "open"}
+    return {order.calls[0]: order.stamp for order in reversed(orders) if order.verb is Verb.OPEN}
 
 
 def last_moments(orders: Sequence[Order], periods: int) -> Dict[int, int]:
@@ -128,9 +128,9 @@ def last_moments(orders: Sequence[Order], periods: int) -> Dict[int, int]:
     latest: Dict[int, int] = {}
     closed: Dict[int, int] = {}
     for order in orders:
-        if order.verb == "open":
+        if order.verb is Verb.OPEN:
             latest.setdefault(order.calls[0], periods)
-        elif order.verb == "close" and order.calls[0] in latest:
+        elif order.verb is Verb.CLOSE and order.calls[0] in latest:
             closed.setdefault(order.calls[0], order.stamp)
     return {**latest, **closed}
 
@@ -260,11 +260,13 @@ def _call_of(plan: RunPlan, uplinks: Mapping[int, Uplink], number: int) -> CallO
     settings = [
         _setting(order, opening)
         for order in plan.accepted
-        if order.verb in ("level", "dtx") and order.calls[0] == number
+        if order.verb in (Verb.LEVEL, Verb.DTX) and order.calls[0] == number
     ]
     pcm = plan.incoming[number].pcm.octets
     law = next(
-        order.law() for order in plan.accepted if order.verb == "open" and order.calls[0] == number
+        order.law()
+        for order in plan.accepted
+        if order.verb is Verb.OPEN and order.calls[0] == number
     )
     sent = outgoing(Call(number, law, end.at - opening, uplinks[number], pcm, settings, spans))
     return CallOfRun(number, opening, end, sent)
@@ -273,7 +275,7 @@ def _call_of(plan: RunPlan, uplinks: Mapping[int, Uplink], number: int) -> CallO
 def _setting(order: Order, opening: int) -> Setting:
     """A `level` or `dtx` order as the call sees it, its period counted from the call's opening
     (docs/OPERATORS.md, "Orders")."""
-    if order.verb == "level":
+    if order.verb is Verb.LEVEL:
         return Setting(order.stamp - opening, level=int(order.value()))
     return Setting(order.stamp - opening, dtx=Dtx(order.value()))
 

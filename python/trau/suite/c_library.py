@@ -6,6 +6,8 @@ from trau import trau_fr
 from trau.trau_fr import Kind, Line
 
 from trau.suite.operations import (
+    A_TO_A,
+    A_TO_MU,
     CALL,
     DESCRIPTOR,
     GOOD,
@@ -14,6 +16,8 @@ from trau.suite.operations import (
     LINE_OCTETS,
     LOST,
     LOST_DUE,
+    MU_TO_A,
+    MU_TO_MU,
     SAMPLE_OCTETS,
     SAMPLES,
     samples_of,
@@ -27,7 +31,22 @@ KINDS = {
     LOST_DUE: Kind.LOST,
     IDLE: Kind.IDLE,
 }
+LAWS = {
+    A_TO_A: ("alaw", "alaw"),
+    A_TO_MU: ("alaw", "mulaw"),
+    MU_TO_A: ("mulaw", "alaw"),
+    MU_TO_MU: ("mulaw", "mulaw"),
+}
 DIGITS = {Kind.SPEECH: GOOD, Kind.DESCRIPTOR: DESCRIPTOR, Kind.LOST: LOST, Kind.IDLE: IDLE}
+
+
+def recode(octets: bytes) -> bytes:
+    """Octets of a law to octets of the other; those of the same law stay."""
+    return b"".join(
+        (each[1:] if law == other else trau_fr.compress(trau_fr.expand(each[1:], law), other))
+        for each in units(octets, 2)
+        for law, other in [LAWS[chr(each[0])]]
+    )
 
 
 def kind(octets: bytes) -> bytes:
@@ -96,6 +115,7 @@ ANSWERS: Dict[str, Callable[[bytes], bytes]] = {
     "alaw-compress": lambda octets: trau_fr.compress(octets, "alaw"),
     "mulaw-expand": lambda octets: bytes(trau_fr.expand(octets, "mulaw")),
     "mulaw-compress": lambda octets: trau_fr.compress(octets, "mulaw"),
+    "recode": recode,
     "kind": kind,
     "conceal": received(lambda receiver, *period: receiver.hand(*period)),
     "receive": received(lambda receiver, *period: bytes(receiver.receive(*period))),

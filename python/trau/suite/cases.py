@@ -33,7 +33,7 @@ Maker = Callable[[], Sequence[Case]]
 
 def all_cases() -> List[Case]:
     """All cases, in the order in which they are tried."""
-    from trau.suite import codec_cases, law_cases, line_cases, pause_cases
+    from trau.suite import call_cases, codec_cases, law_cases, line_cases, pause_cases
 
     makers: Tuple[Maker, ...] = (
         law_cases.cases,
@@ -42,5 +42,6 @@ def all_cases() -> List[Case]:
         codec_cases.encoder_cases,
         pause_cases.receiving_cases,
         pause_cases.sending_cases,
+        call_cases.cases,
     )
     return [each for maker in makers for each in maker()]

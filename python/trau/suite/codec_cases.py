@@ -2,13 +2,14 @@
 
 from typing import Callable, Dict, List, Sequence, Tuple
 
-from trau.rules.parameters import WIDTHS, parameters_of_values
+from trau.rules.arithmetic import saturate
+from trau.rules.parameters import WIDTHS, data_of_gsm, parameters_of_values
 
 from trau.suite import sounds
 from trau.suite.cases import Case, case
 from trau.suite.operations import GOOD, GSM_OCTETS, SAMPLES, units, words_of
 from trau.suite.random_source import NamedSource
-from trau.suite.reference import encoded, frame_of_parameters
+from trau.suite.reference import encoded, frame_of_parameters, wav_block_of_data
 
 MOST_VALUES = [(1 << width) - 1 for width in WIDTHS]
 RATIOS = 8
@@ -166,7 +167,12 @@ def decoder_cases() -> List[Case]:
         given = b"".join(map(octets_of_values, hunted_values(number)))
         found.append(case("decode", f"bound-{number}", "decoder.synthesis", given))
     blocks = NamedSource("blocks").octets(65 * 10)
-    return found + [case("decode-wav", "random", "packing.wav", blocks)]
+    in_blocks = [data_of_gsm(frame) for frame in units(speech, GSM_OCTETS)]
+    packed = b"".join(map(wav_block_of_data, in_blocks[::2], in_blocks[1::2]))
+    return found + [
+        case("decode-wav", "random", "decoder.lag decoder.synthesis", blocks),
+        case("decode-wav", "speech", "packing.wav", packed),
+    ]
 
 
 def stay(level: int, frames: int) -> List[int]:
@@ -223,7 +229,63 @@ HUNTED_SOUNDS = {
     ),
     "encoder.lag-gain": (392, 441, 608, 904, 1159, 2986),
     "encoder.pulses": (238, 721),
+    "encoder.grid": (1542,),
+    "encoder.offset": (1110,),
 }
+
+
+def last_samples(number: int) -> List[int]:
+    """A frame of zeros but for its last few samples, one of many among which those were sought
+    whose autocorrelation at lag 1 is 0."""
+    source = NamedSource(f"last samples {number}")
+    count, peak = source.within(3, 8), 1 << source.within(5, 14)
+    return [0] * (SAMPLES - count) + sounds.noise(source, count, peak)
+
+
+def quarters(number: int) -> List[int]:
+    """A frame that preemphasis makes nearly a wave of period 4, so that each second reflection
+    coefficient is about 0."""
+    source = NamedSource(f"quarters {number}")
+    peak = 1 << source.within(8, 13)
+    spread = peak >> source.within(1, 5)
+    samples, last = [], 0
+    for k in range(SAMPLES):
+        wave = (peak, 0, -peak, 0)[k % 4]
+        last = saturate(wave + source.within(-spread, spread) + ((28180 * last) >> 15))
+        samples.append(last)
+    return samples
+
+
+def faint(number: int) -> List[int]:
+    """Two frames of silence with some faint impulses, one of many among which those were sought
+    with a block whose greatest correlation is 1."""
+    source = NamedSource(f"faint {number}")
+    rare, peak = source.within(2, 160), 1 << source.within(3, 7)
+    return [0 if source.within(0, rare) else source.within(-peak, peak) for _ in range(2 * SAMPLES)]
+
+
+def loud_noise(number: int) -> List[int]:
+    """A frame of loud noise, one of many among which those were sought with a pulse on the bound of
+    two codes."""
+    source = NamedSource(f"louder {number}")
+    return sounds.noise(source, SAMPLES, source.within(14000, sounds.MOST))
+
+
+# Bounds that these sounds meet exactly.
+OTHER_HUNTED_SOUNDS: Tuple[Tuple[Callable[[int], List[int]], int, str], ...] = (
+    (last_samples, 665, "encoder.reflection"),
+    (last_samples, 67794, "encoder.ratio-codes"),
+    (quarters, 369, "encoder.reflection"),
+    (quarters, 55117, "encoder.reflection"),
+    (faint, 3429, "encoder.lag"),
+    (loud_noise, 49, "encoder.lag-gain"),
+    (loud_noise, 273, "encoder.pulses"),
+    (loud_noise, 1120, "encoder.pulses"),
+    (loud_noise, 1798, "encoder.pulses"),
+    (loud_noise, 3226, "encoder.pulses"),
+    (loud_noise, 5373, "encoder.pulses"),
+    (loud_noise, 7673, "encoder.pulses"),
+)
 
 
 def used_up() -> List[int]:
@@ -287,4 +349,7 @@ def encoder_cases() -> List[Case]:
         found += [
             case("encode", f"bound-{number}", rule, words_of(hunted(number))) for number in numbers
         ]
+    for maker, number, rule in OTHER_HUNTED_SOUNDS:
+        title = f"{maker.__name__.replace('_', '-')}-{number}"
+        found.append(case("encode", title, rule, words_of(maker(number))))
     return found + [case("encode-wav", "voice", "packing.wav", voice_octets("wav", 12))]

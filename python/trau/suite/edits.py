@@ -17,22 +17,24 @@ from trau.suite.generator import Expected
 PACKAGE = Path(__file__).resolve().parents[1]
 # The operations that a module's edits show in, the fastest first.
 CODEC = ("encode", "decode")
+CALL = ("call-alaw", "call-mulaw")
 # What the encoder doesn't run of the codec.
 DECODER_ALONE = ("short_term_synthesis", "FullRateDecoder")
+LAWS = ("alaw-expand", "mulaw-expand", "alaw-compress", "mulaw-compress", "recode")
 LINE = ("write-uplink", "read-uplink", "write-downlink", "read-downlink", "kind", "search")
 OPERATIONS_OF: Dict[str, Tuple[str, ...]] = {
-    "model.codec": CODEC,
+    "model.codec": (*CODEC, "send"),
     "model.receive": ("conceal", "receive"),
     "model.transmit": ("send",),
-    "recordings.code_word": ("kind",),
+    "recordings.code_word": ("kind", "mark"),
     "rules.arithmetic": CODEC,
-    "rules.frame": LINE,
-    "rules.g711": ("alaw-expand", "mulaw-expand", "alaw-compress", "mulaw-compress"),
+    "rules.frame": (*LINE, "mark", *CALL),
+    "rules.g711": (*LAWS, *CALL),
     "rules.noise": ("conceal",),
     "rules.parameters": ("decode", "decode-wav", "encode-wav", "conceal"),
     "rules.preprocessing": ("encode",),
-    "rules.profile": ("conceal", *LINE, "alaw-expand", "mulaw-expand", "alaw-compress", "send"),
-    "rules.search": ("search",),
+    "rules.profile": ("conceal", *LINE, *LAWS, "send", *CALL),
+    "rules.search": ("search", "count", "call-alaw"),
 }
 # What must be imported anew after an edit.
 EDITED_PACKAGES = ("trau.rules", "trau.model", "trau.recordings", "trau.suite.reference")
@@ -146,26 +148,25 @@ def edits_of(module: str) -> List[Edit]:
 def names_of_profile() -> List[str]:
     """The names of the profile's constants that the other modules take."""
     trees = [tree_of(module) for module in OPERATIONS_OF if module != "rules.profile"]
-    return [
+    nodes = [node for tree in trees for node in ast.walk(tree)]
+    imported = [
+        name.name
+        for node in nodes
+        if isinstance(node, ast.ImportFrom) and node.module == "trau.rules.profile"
+        for name in node.names
+    ]
+    return imported + [
         node.attr
-        for tree in trees
-        for node in ast.walk(tree)
+        for node in nodes
         if isinstance(node, ast.Attribute) and ast.unparse(node.value) == "profile"
     ]
 
 
-def all_edits(left_out: Sequence[str]) -> List[Edit]:
-    """All edits, without those that the suite leaves out: of functions and constants, or single
-    ones by their names."""
+def all_edits() -> List[Edit]:
+    """All edits; of the profile those of constants that the other modules take."""
     used = names_of_profile()
     edits = [edit for module in OPERATIONS_OF for edit in edits_of(module)]
-    return [
-        edit
-        for edit in edits
-        if not f"{edit.module}.{edit.place}.".startswith(tuple(f"{one}." for one in left_out))
-        and edit.name() not in left_out
-        and (edit.module != "rules.profile" or edit.place in used)
-    ]
+    return [edit for edit in edits if edit.module != "rules.profile" or edit.place in used]
 
 
 def code_of(edit: Edit) -> CodeType:

@@ -6,7 +6,16 @@ from typing import Callable, Dict, List
 from trau.rules.parameters import data_of_gsm, parameters_of_bits, values_of
 
 from trau.suite.cases import Case
-from trau.suite.operations import GSM_OCTETS, OPERATIONS, samples_of, units, words_of
+from trau.suite.operations import (
+    CALL_OCTETS,
+    GSM_OCTETS,
+    LINE_OCTETS,
+    OPERATIONS,
+    SAMPLES,
+    samples_of,
+    units,
+    words_of,
+)
 
 Files = Dict[str, bytes]  # octets by endings
 
@@ -38,6 +47,14 @@ def orders(ending: str, octets: bytes, size: int) -> Files:
     return {"orders": "".join(lines).encode(), ending: sound}
 
 
+def call(ending: str, given: bytes, expected: bytes) -> Files:
+    """The four lines of a call; what comes from the exchange and what goes to it have `pcm` and
+    `out` before the law's ending."""
+    up, pcm = parted(given, CALL_OCTETS, LINE_OCTETS)
+    out, down = parted(expected, CALL_OCTETS, SAMPLES)
+    return {"up": up, f"pcm.{ending}": pcm, f"out.{ending}": out, "down": down}
+
+
 def forms_of(case: Case, expected: bytes) -> Files:
     """The files of a case by their endings: what is given, and what is expected."""
     word, given = case.operation, case.given
@@ -58,7 +75,12 @@ def forms_of(case: Case, expected: bytes) -> Files:
         "read-uplink": lambda: {"up": given, **periods(expected)},
         "write-downlink": lambda: {**periods(given), "down": expected},
         "read-downlink": lambda: {"down": given, **periods(expected)},
+        "recode": lambda: {"laws": given, "law": expected},
+        "mark": lambda: {"gsm": given, "up": expected},
         "search": lambda: {"up": given, "txt": expected},
+        "count": lambda: {"up": given, "txt": expected},
+        "call-alaw": lambda: call("al", given, expected),
+        "call-mulaw": lambda: call("ul", given, expected),
     }
     if law:
         to_samples = word.endswith("expand")

@@ -8,11 +8,14 @@ SAMPLES = 160
 GSM_OCTETS = 33
 SAMPLE_OCTETS = 2 * SAMPLES
 LINE_OCTETS = 40
+CALL_OCTETS = LINE_OCTETS + SAMPLES  # of a period, of both incoming or of both outgoing lines
 CALL = 7  # whose number the draws of all cases start from
 
 # What a period brings, as a digit of a loss pattern.
 GOOD, DESCRIPTOR, LOST, LOST_DUE, IDLE = "0", "1", "2", "3", "4"
 DIGITS = GOOD + DESCRIPTOR + LOST + LOST_DUE + IDLE
+# From which law to which, as a digit.
+A_TO_A, A_TO_MU, MU_TO_A, MU_TO_MU = "0", "1", "2", "3"
 
 
 class Operation(NamedTuple):
@@ -33,6 +36,9 @@ descriptor was due, {IDLE} idle), and {FRAME}"
 SENT = f"a digit ({GOOD} speech, {DESCRIPTOR} descriptor), and {FRAME}"
 ORDER = "the level (a word of 16 bits), the digit 1 or 0 of discontinuous transmission"
 LINE = "the 40 octets of a TRAU frame"
+RECODED = f"a digit ({A_TO_A} A-law to A-law, {A_TO_MU} A-law to mu-law, {MU_TO_A} mu-law to A-law, \
+{MU_TO_MU} mu-law to mu-law), and an octet"
+CALL_IN, CALL_OUT = "40 octets of Up, and 160 of Pcm", "160 octets of Out, and 40 of Down"
 
 _ALL = (
     Operation("encode", SAMPLE_OCTETS, GSM_OCTETS, SOUND, FRAME),
@@ -43,6 +49,7 @@ _ALL = (
     Operation("alaw-compress", 2, 1, "a sample", "an octet of A-law"),
     Operation("mulaw-expand", 1, 2, "an octet of mu-law", "a sample"),
     Operation("mulaw-compress", 2, 1, "a sample", "an octet of mu-law"),
+    Operation("recode", 2, 1, RECODED, "an octet"),
     Operation("kind", GSM_OCTETS, 1, FRAME, "its digit: good, descriptor or lost"),
     Operation("conceal", 1 + GSM_OCTETS, GSM_OCTETS, PERIOD, "the frame that is decoded"),
     Operation("receive", 1 + GSM_OCTETS, SAMPLE_OCTETS, PERIOD, SOUND),
@@ -53,7 +60,11 @@ _ALL = (
     Operation("read-uplink", 40, 1 + GSM_OCTETS, LINE, PERIOD),
     Operation("write-downlink", 1 + GSM_OCTETS, 40, PERIOD, LINE),
     Operation("read-downlink", 40, 1 + GSM_OCTETS, LINE, PERIOD),
-    Operation("search", 40, 0, "a period of an uplink", "the text of `frames`"),
+    Operation("mark", GSM_OCTETS, LINE_OCTETS, f"{FRAME}, or zeros for a lost one", LINE),
+    Operation("search", LINE_OCTETS, 0, "a period of an uplink", "the text of `frames`"),
+    Operation("count", LINE_OCTETS, 0, "a period of an uplink", "the counts of a report"),
+    Operation("call-alaw", CALL_OCTETS, CALL_OCTETS, CALL_IN, CALL_OUT),
+    Operation("call-mulaw", CALL_OCTETS, CALL_OCTETS, CALL_IN, CALL_OUT),
 )
 OPERATIONS: Dict[str, Operation] = {each.word: each for each in _ALL}
 

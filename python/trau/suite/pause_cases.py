@@ -9,7 +9,7 @@ from trau.rules.preprocessing import Preprocessing
 
 from trau.suite import sounds
 from trau.suite.cases import Case, case
-from trau.suite.codec_cases import ENCODING, octets_of_values, random_values
+from trau.suite.codec_cases import ENCODING, hunted, octets_of_values, random_values
 from trau.suite.operations import (
     DESCRIPTOR,
     GOOD,
@@ -193,6 +193,13 @@ def pause_cases() -> List[Case]:
     return found
 
 
+def mean_case() -> Case:
+    """A pause with a reflection coefficient of 31130, where two lines of the log area ratio meet
+    one unit apart, and with a mean of ratios on the bound of two codes."""
+    samples = hunted(38023) + hunted(6562) * 2
+    return case("send", "mean-on-a-bound", "send.means", orders(samples, sounds.MOST))
+
+
 def sending_cases() -> List[Case]:
     """The transmit side, also on a line of A-law."""
     source = NamedSource("sending")
@@ -200,7 +207,7 @@ def sending_cases() -> List[Case]:
     always = case("send", "always-on", f"send.speech {ENCODING}", orders(voice, on=False))
     mixed = orders(voice[: SAMPLES * 9]) + orders(voice[SAMPLES * 9 :], 2000)
     found = [always, case("send", "voice", "send.means send.every-frame", mixed)]
-    found += level_cases() + pause_cases()
+    found += level_cases() + pause_cases() + [mean_case()]
     on_a_line = ("always-on", "voice", "pause-6", "speech-23", "speech-24", "silence-after-speech")
     return found + [
         case("send-alaw", one.title, " ".join(one.rules), alaw_orders(one.given))

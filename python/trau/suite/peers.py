@@ -4,6 +4,7 @@ import ctypes.util
 import os
 import shlex
 import shutil
+import struct
 import subprocess
 import tempfile
 from pathlib import Path
@@ -11,7 +12,14 @@ from typing import Callable, Dict, List, Mapping, NamedTuple, Sequence, Tuple
 
 from trau.command_line.words import Refusal
 
-from trau.suite.operations import OPERATIONS, samples_of, units
+from trau.suite.operations import (
+    GSM_OCTETS,
+    LINE_OCTETS,
+    OPERATIONS,
+    SAMPLE_OCTETS,
+    samples_of,
+    units,
+)
 
 Answer = Callable[[bytes], bytes]
 UNSUPPORTED = 3  # the status of a command that doesn't have an operation
@@ -110,6 +118,9 @@ def trau() -> Peer:
         "search": lambda given: frames_by_program(program, given),
         "receive-alaw": lambda given: received_by_program(program, given),
         "send-alaw": lambda given: sent_by_program(program, given),
+        "count": lambda given: counted_by_program(program, given),
+        "call-alaw": lambda given: called_by_program(program, "alaw", given),
+        "call-mulaw": lambda given: called_by_program(program, "mulaw", given),
     }
     return Peer("trau", "", answers, is_ours=True)
 
@@ -140,7 +151,7 @@ def received_by_program(program: str, given: bytes) -> bytes:
 
 def sent_by_program(program: str, given: bytes) -> bytes:
     """The transmit side: a run of one call with orders in each period, and a period more."""
-    from trau.suite.operations import GOOD, LINE_OCTETS
+    from trau.suite.operations import GOOD
     from trau.suite.reference import ANSWERS
 
     frames = units(given, OPERATIONS["send-alaw"].unit)
@@ -155,7 +166,71 @@ def sent_by_program(program: str, given: bytes) -> bytes:
     return ANSWERS["read-downlink"](down[LINE_OCTETS:])
 
 
+def counted_by_program(program: str, given: bytes) -> bytes:
+    """The counts of a call's report without those of its downlink."""
+    pcm = b"\xd5" * 4 * len(given)
+    text = run_program(program, ["run"], "0 open 7\n", up=given, pcm=pcm)["text"]
+    (counts,) = [each for each in text.splitlines() if each.startswith(b"counts ")]
+    return counts.split(b" ", 2)[2].partition(b" made ")[0]
+
+
+def called_by_program(program: str, law: str, given: bytes) -> bytes:
+    """Both outgoing lines of a call."""
+    from trau.suite.reference import both_lines
+
+    periods = units(given, OPERATIONS["call-alaw"].unit)
+    up = b"".join(each[:LINE_OCTETS] for each in periods)
+    pcm = b"".join(each[LINE_OCTETS:] for each in periods)
+    order = "0 open 7 mulaw\n" if law == "mulaw" else "0 open 7\n"
+    left = run_program(program, ["run"], order, up=up, pcm=pcm)
+    return both_lines(left["out"], left["down"])
+
+
 # Peers of others: programs.
+
+WAV_GSM = 0x31  # the format of GSM frames in WAV files
+BLOCK_OCTETS, BLOCK_SAMPLES = 65, 320
+OCTETS_A_SECOND = 1625
+
+
+def chunk(name: bytes, content: bytes) -> bytes:
+    """A chunk of a WAV file."""
+    return name + struct.pack("<I", len(content)) + content + b"\0" * (len(content) % 2)
+
+
+def wav_of_blocks(blocks: bytes) -> bytes:
+    """A WAV file of GSM frames, two in a block of 65 octets."""
+    head = (WAV_GSM, 1, 8000, OCTETS_A_SECOND, BLOCK_OCTETS, 0, 2, BLOCK_SAMPLES)
+    samples = struct.pack("<I", BLOCK_SAMPLES * (len(blocks) // BLOCK_OCTETS))
+    parts = chunk(b"fmt ", struct.pack("<HHIIHHHH", *head)) + chunk(b"fact", samples)
+    return chunk(b"RIFF", b"WAVE" + parts + chunk(b"data", blocks))
+
+
+def blocks_of_wav(wav: bytes) -> bytes:
+    """The blocks of a WAV file of GSM frames; a program that writes to a pipe doesn't know how many
+    there are."""
+    start = wav.index(b"data") + 8
+    return wav[start : start + (len(wav) - start) // BLOCK_OCTETS * BLOCK_OCTETS]
+
+
+def by_wav(decodes: Answer) -> Answer:
+    """The answer of a program that decodes WAV files, for blocks."""
+    return lambda given: decodes(wav_of_blocks(given))
+
+
+def by_blocks(decodes: Answer) -> Answer:
+    """The answer of a program that decodes blocks, for frames of 33 octets."""
+    from trau.rules.parameters import data_of_gsm
+    from trau.suite.reference import wav_block_of_data
+
+    def answer(given: bytes) -> bytes:
+        frames = units(given, GSM_OCTETS)
+        data = [data_of_gsm(each) for each in frames + frames[:1] * (len(frames) % 2)]
+        blocks = b"".join(map(wav_block_of_data, data[::2], data[1::2]))
+        return decodes(blocks)[: SAMPLE_OCTETS * len(frames)]
+
+    return answer
+
 
 WORDS_IN = ("-f", "s16le", "-ar", "8000", "-ac", "1", "-i", "pipe:0")
 WORDS_OUT = ("-f", "s16le", "pipe:1")
@@ -165,7 +240,10 @@ def ffmpeg() -> Peer:
     """ffmpeg's own decoder, and its laws."""
     program = program_of("ffmpeg", "ffmpeg")
     start = (program, "-v", "error")
-    answers = {"decode": piped(*start, "-c:a", "gsm", "-f", "gsm", "-i", "pipe:0", *WORDS_OUT)}
+    answers = {
+        "decode": piped(*start, "-c:a", "gsm", "-f", "gsm", "-i", "pipe:0", *WORDS_OUT),
+        "decode-wav": by_wav(piped(*start, "-c:a", "gsm_ms", "-i", "pipe:0", *WORDS_OUT)),
+    }
     for law in ("alaw", "mulaw"):
         into = ("-c:a", f"pcm_{law}", "-f", law, "pipe:1")
         line = ("-f", law, "-ar", "8000", "-ac", "1", "-i", "pipe:0")
@@ -178,18 +256,26 @@ def ffmpeg_libgsm() -> Peer:
     """libgsm within ffmpeg."""
     program = program_of("ffmpeg", "ffmpeg")
     start = (program, "-v", "error")
+    in_wav = piped(*start, *WORDS_IN, "-c:a", "libgsm_ms", "-f", "wav", "pipe:1")
     answers = {
         "decode": piped(*start, "-c:a", "libgsm", "-f", "gsm", "-i", "pipe:0", *WORDS_OUT),
         "encode": piped(*start, *WORDS_IN, "-c:a", "libgsm", "-f", "gsm", "pipe:1"),
+        "decode-wav": by_wav(piped(*start, "-c:a", "libgsm_ms", "-i", "pipe:0", *WORDS_OUT)),
+        "encode-wav": lambda given: blocks_of_wav(in_wav(given)),
     }
     return Peer("ffmpeg-libgsm", version_of("ffmpeg"), answers)
 
 
 def sox() -> Peer:
-    """sox: files .gsm, .al, .ul."""
+    """sox: files .gsm, .al, .ul, .wav."""
     program = program_of("sox", "sox")
     raw = ("-t", "raw", "-e", "signed", "-b", "16", "-L", "-r", "8000", "-c", "1", "-")
-    answers = {}
+    wav = ("-t", "wav", "-e", "gsm-full-rate", "-")
+    in_wav = piped(program, "-D", "-V1", *raw, *wav)
+    answers: Dict[str, Answer] = {
+        "decode-wav": by_wav(piped(program, "-D", "-V1", "-t", "wav", "-", *raw)),
+        "encode-wav": lambda given: blocks_of_wav(in_wav(given)),
+    }
     names = {"decode": "gsm", "alaw-expand": "al", "mulaw-expand": "ul"}
     for operation, kind in names.items():
         file = ("-t", kind, "-r", "8000", "-c", "1", "-")
@@ -200,7 +286,8 @@ def sox() -> Peer:
 
 
 def gstreamer() -> Peer:
-    """GStreamer's gsmenc and its laws. gsmdec takes no frames without times, so it isn't asked."""
+    """GStreamer's gsmenc, gsmdec and its laws. gsmdec takes no frames without times, so it gets each
+    frame in a WAV file, which has them."""
     program = program_of("gst-launch-1.0", "gstreamer1.0-tools")
     package = "gstreamer1.0-plugins-bad"
     if not version_of(package) and shutil.which("dpkg-query"):
@@ -217,6 +304,8 @@ def gstreamer() -> Peer:
 
     answers = {
         "encode": line(f"{words} ! gsmenc"),
+        "decode": by_blocks(by_wav(line("wavparse ! gsmdec"))),
+        "decode-wav": by_wav(line("wavparse ! gsmdec")),
         "alaw-expand": line(f"{caps('alaw')} ! alawdec"),
         "alaw-compress": line(f"{words} ! alawenc"),
         "mulaw-expand": line(f"{caps('mulaw')} ! mulawdec"),

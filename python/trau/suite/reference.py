@@ -2,10 +2,13 @@
 
 from typing import Callable, Dict, List, Union
 
+from trau.model.call import Call, outgoing
+from trau.model.call import uplink as uplink_half
 from trau.model.codec import FullRateDecoder, FullRateEncoder
 from trau.model.receive import effective_frames
 from trau.model.transmit import Coded, sent_frames
-from trau.recordings.code_word import kind_of
+from trau.recordings.code_word import Marker, kind_of
+from trau.recordings.uplink_frames import UplinkFrames
 from trau.rules.frame import (
     Bits,
     DownFrame,
@@ -21,6 +24,7 @@ from trau.rules.frame import (
 from trau.rules.g711 import Law, compress_all, expand_all
 from trau.rules.parameters import (
     GSM_MAGIC,
+    GSM_OCTETS,
     SILENCE,
     WAV_BLOCK_OCTETS,
     Parameters,
@@ -33,14 +37,18 @@ from trau.rules.parameters import (
 from trau.rules.search import end_of_text, yields_by_period
 
 from trau.suite.operations import (
+    A_TO_A,
+    A_TO_MU,
     CALL,
+    CALL_OCTETS,
     DESCRIPTOR,
     GOOD,
-    GSM_OCTETS,
     IDLE,
     LINE_OCTETS,
     LOST,
     LOST_DUE,
+    MU_TO_A,
+    MU_TO_MU,
     SAMPLE_OCTETS,
     SAMPLES,
     samples_of,
@@ -57,6 +65,12 @@ KINDS = {
 }
 DIGIT_OF_KIND = {FrameKind.SPEECH: GOOD, FrameKind.VALID_SID: DESCRIPTOR, FrameKind.IDLE: IDLE}
 NO_FRAME = bytes(GSM_OCTETS)
+LAWS = {
+    A_TO_A: (Law.A, Law.A),
+    A_TO_MU: (Law.A, Law.MU),
+    MU_TO_A: (Law.MU, Law.A),
+    MU_TO_MU: (Law.MU, Law.MU),
+}
 
 
 def parameters_of(frame: bytes) -> Parameters:
@@ -116,6 +130,12 @@ def expand(law: Law) -> Callable[[bytes], bytes]:
 def compress(law: Law) -> Callable[[bytes], bytes]:
     """Samples to octets of a law."""
     return lambda octets: compress_all(law, samples_of(octets))
+
+
+def recode(octets: bytes) -> bytes:
+    """Octets of a law to octets of the other, or of the same one."""
+    pairs = [(LAWS[chr(each[0])], each[1]) for each in units(octets, 2)]
+    return bytes([law.table_to(other)[octet] for (law, other), octet in pairs])
 
 
 def digit_of(frame: bytes) -> str:
@@ -213,6 +233,40 @@ def read_downlink(octets: bytes) -> bytes:
     return b"".join(period_of(read_down(bits_of(each))) for each in units(octets, LINE_OCTETS))
 
 
+def mark(octets: bytes) -> bytes:
+    """The uplink of frames, with their descriptors marked by the code word; frames of zeros were
+    lost."""
+    frames = UplinkFrames(Marker())
+    given = units(octets, GSM_OCTETS)
+    frames.take_all([None if each == NO_FRAME else data_of_gsm(each) for each in given])
+    return frames.line()
+
+
+def count(octets: bytes) -> bytes:
+    """How many periods of an uplink yield each kind."""
+    kinds = uplink_half(CALL, octets).kinds
+    return " ".join(f"{kind.value} {kinds.count(kind)}" for kind in FrameKind).encode()
+
+
+def call(law: Law) -> Callable[[bytes], bytes]:
+    """The periods of a call's incoming lines to those of its outgoing ones, without any order but
+    the one that opens it."""
+
+    def answer(octets: bytes) -> bytes:
+        periods = units(octets, CALL_OCTETS)
+        up = b"".join(each[:LINE_OCTETS] for each in periods)
+        pcm = b"".join(each[LINE_OCTETS:] for each in periods)
+        made = outgoing(Call(CALL, law, len(periods), uplink_half(CALL, up), pcm, (), ()))
+        return both_lines(made.out, made.down)
+
+    return answer
+
+
+def both_lines(out: bytes, down: bytes) -> bytes:
+    """The periods of Out and Down, of both in turn."""
+    return b"".join(map(bytes.__add__, units(out, SAMPLES), units(down, LINE_OCTETS)))
+
+
 def search(octets: bytes) -> bytes:
     """The frames that are found on an uplink, and the last line of their text."""
     yields = [one for one in yields_by_period(bits_of(octets)) if one is not None]
@@ -229,6 +283,7 @@ ANSWERS: Dict[str, Callable[[bytes], bytes]] = {
     "alaw-compress": compress(Law.A),
     "mulaw-expand": expand(Law.MU),
     "mulaw-compress": compress(Law.MU),
+    "recode": recode,
     "kind": kind,
     "conceal": conceal,
     "receive": receive,
@@ -239,5 +294,9 @@ ANSWERS: Dict[str, Callable[[bytes], bytes]] = {
     "read-uplink": read_uplink,
     "write-downlink": write_downlink,
     "read-downlink": read_downlink,
+    "mark": mark,
     "search": search,
+    "count": count,
+    "call-alaw": call(Law.A),
+    "call-mulaw": call(Law.MU),
 }

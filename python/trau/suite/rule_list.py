@@ -3,7 +3,7 @@
 import enum
 import json
 from pathlib import Path
-from typing import Dict, List, NamedTuple, Tuple
+from typing import Any, Dict, List, NamedTuple, Tuple
 
 FOLDER = Path(__file__).resolve().parents[3] / "suite"
 
@@ -29,17 +29,39 @@ class Rule(NamedTuple):
     constants: Dict[str, object]
 
 
+class RecordedRule(NamedTuple):
+    """A rule that no case exercises, only a recording of lines, and what such a recording needs."""
+
+    rule: Rule
+    send: str
+
+
+Entry = Dict[str, Any]
+
+
+def entries_of(name: str) -> List[Entry]:
+    """The entries of a file of rules."""
+    entries: List[Entry] = json.loads((FOLDER / name).read_text(encoding="utf-8"))
+    return entries
+
+
+def rule_of(entry: Entry) -> Rule:
+    """The rule of an entry."""
+    return Rule(
+        entry["id"],
+        entry["says"],
+        entry["source"],
+        Level(entry["level"]),
+        tuple(entry.get("page", ())),
+        entry.get("constants", {}),
+    )
+
+
 def read_rules() -> List[Rule]:
-    """All rules, in the file's order."""
-    entries = json.loads((FOLDER / "rules.json").read_text(encoding="utf-8"))
-    return [
-        Rule(
-            entry["id"],
-            entry["says"],
-            entry["source"],
-            Level(entry["level"]),
-            tuple(entry.get("page", ())),
-            entry.get("constants", {}),
-        )
-        for entry in entries
-    ]
+    """All rules that cases exercise, in the file's order."""
+    return list(map(rule_of, entries_of("rules.json")))
+
+
+def read_recorded_rules() -> List[RecordedRule]:
+    """The rules that a recording alone exercises."""
+    return [RecordedRule(rule_of(entry), entry["send"]) for entry in entries_of("recorded.json")]

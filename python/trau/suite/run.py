@@ -14,7 +14,7 @@ from trau.suite.generator import expected_cases, write_all
 from trau.suite.matrix import Verdict, row_of
 from trau.suite.peers import NotThere, Peer, by_command, shipped
 from trau.suite.rule_list import read_rules
-from trau.suite.tables import html_of, json_of, junit_of, text_of
+from trau.suite.tables import html_of, json_of, junit_of, markdown_of, text_of
 
 OPTIONS = (
     option("--peer", action="append", metavar="NAME", help="a shipped peer; `all` for each"),
@@ -26,6 +26,7 @@ OPTIONS = (
     option("--json", type=Path, metavar="FILE", help="write JSON"),
     option("--junit", type=Path, metavar="FILE", help="write JUnit's XML"),
     option("--html", type=Path, metavar="FILE", help="write a page"),
+    option("--markdown", type=Path, metavar="FILE", help="write the tables of CONFORMANCE.md"),
     option("--write", type=Path, metavar="FOLDER", help="write all cases, in files, and end"),
 )
 
@@ -72,6 +73,7 @@ def main(words: Sequence[str]) -> int:
         (asked.json, json_of(rows, rules)),
         (asked.junit, junit_of(rows)),
         (asked.html, html_of(rows, rules)),
+        (asked.markdown, markdown_of(rows, rules)),
     )
     for path, content in files:
         if path is not None:

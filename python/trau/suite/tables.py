@@ -1,4 +1,5 @@
-"""The matrix as a text, as JSON, as JUnit's XML and as one page of HTML."""
+"""The matrix as a text, as JSON, as JUnit's XML, as one page of HTML, and as the tables of
+docs/CONFORMANCE.md."""
 
 import html
 import json
@@ -6,7 +7,7 @@ from typing import Dict, List, Sequence
 from xml.etree import ElementTree
 
 from trau.suite.matrix import Cell, PeerRow, Verdict
-from trau.suite.rule_list import Rule
+from trau.suite.rule_list import Level, Rule
 
 MARKS = {
     Verdict.KEPT: "kept",
@@ -88,6 +89,50 @@ def junit_of(rows: Sequence[PeerRow]) -> str:
                 said = "; ".join(broken) + (f" ({each.failure})" if each.failure else "")
                 ElementTree.SubElement(test, "failure", {"message": said})
     return ElementTree.tostring(top, encoding="unicode") + "\n"
+
+
+def markdown_table(*lines: Sequence[str]) -> str:
+    """A table of Markdown; its first line is the head."""
+    head, *others = [f"| {' | '.join(line)} |\n" for line in lines]
+    return head + "|---" * len(lines[0]) + "|\n" + "".join(others)
+
+
+def count_of(row: PeerRow, verdict: Verdict) -> int:
+    """How many rules have this verdict."""
+    return sum(one.verdict is verdict for one in row.cells.values())
+
+
+def markdown_of(rows: Sequence[PeerRow], rules: Sequence[Rule]) -> str:
+    """The peers with their counts; the rules that bind each of them; where each is broken first."""
+    peers = [
+        (
+            f"`{row.peer.name}`",
+            "this repository" if row.peer.is_ours else row.peer.version or "-",
+            str(len(row.outcomes)),
+            str(count_of(row, Verdict.KEPT)),
+            str(count_of(row, Verdict.BROKEN)),
+        )
+        for row in rows
+    ]
+    verdicts = [
+        (f"`{rule.identifier}`", rule.level.value)
+        + tuple(MARKS[row.cells[rule.identifier].verdict] for row in rows)
+        for rule in rules
+        if rule.level is not Level.OWN
+    ]
+    broken = [
+        (f"`{row.peer.name}`", f"`{name}`", f"{cell.first_case}, {cell.failure or cell.first_unit}")
+        for row in rows
+        for name, cell in row.cells.items()
+        if cell.verdict is Verdict.BROKEN
+    ]
+    heads = ("Peer", "Debian's version", "Cases", "Rules kept, of all levels", "Rules broken")
+    tables = (
+        markdown_table(heads, *peers),
+        markdown_table(("Rule", "Level", *(name for name, *_ in peers)), *verdicts),
+        markdown_table(("Peer", "Rule", "First case, frame"), *broken),
+    )
+    return "\n".join(tables)
 
 
 STYLE = """body{font:14px sans-serif}table{border-collapse:collapse}
