@@ -12,7 +12,7 @@ from collections import Counter
 from unittest import mock
 
 import test_capture_walk
-from support import DATA, EXAMPLES, TOOLS, InFolder
+from support import DATA, EXAMPLES, TOOLS, InFolder, frames_of_downlink
 from test_capture_walk import enhanced, interface, option, section
 
 from trau.gateway import rtp as gateway_rtp
@@ -23,7 +23,7 @@ from trau.recordings import rtp_walk, udp_layers
 from trau.recordings import uplink_frames
 from trau.recordings.capture_walk import packets
 from capture_files import HAS_DPKT, InCaptures, fields, rewritten, kinds_of
-from trau.rules.frame import FrameKind, bits_of
+from trau.rules.frame import FrameKind, bits_of, read_down
 from trau.rules.g711 import Law, samples_by_octet
 from trau.rules.parameters import SILENCE, bits_of_parameters, data_of_gsm, gsm_of_data
 from trau.rules.search import search
@@ -104,6 +104,45 @@ class AsBaseStationsSend(InCaptures):
         )
         kinds = [code_word.kind_of(data_of_gsm(each.payload)) for each in packets_of(kept)]
         self.assertIn(FrameKind.VALID_SID, kinds)
+
+    def sent_in_pause(self, line, name):
+        """The packets that a line gives with its descriptors: of each the period, and whether it is
+        a descriptor."""
+        new = self.folder / "kept.pcap"
+        words = ("capture", self.path(name, line), new, "--silence", "keep")
+        self.assertEqual(self.run_tool(lines.main, *words)[::2], (0, ""))
+        return [
+            (each.stamp // 160, code_word.kind_of(data_of_gsm(each.payload)) is FrameKind.VALID_SID)
+            for each in packets_of(new)
+        ]
+
+    def test_each_24th_period_of_a_pause(self):
+        # Ten periods of speech, a pause of 60 whose descriptors come when they are due, and speech.
+        speech = [data_of_gsm(payload) for _, _, _, _, payload in fields("gsm.txt")[:10]]
+        descriptor = bits_of_parameters(silence_descriptor(SILENCE))
+        made = uplink_frames.UplinkFrames(code_word.Marker())
+        made.take_all(speech)
+        for periods in (24, 24, 12):
+            made.take(descriptor)
+            made.lose(periods - 1)
+        made.take_all(speech)
+        wanted = [(at, False) for at in range(10)]
+        wanted += [(at, True) for at in (10, 34, 58)]
+        wanted += [(at, False) for at in range(70, 80)]
+        self.assertEqual(self.sent_in_pause(made.line(), "1.up"), wanted)
+
+    def test_each_24th_period_of_a_downlink_s_pause(self):
+        # A downlink has a descriptor in each period of a pause.
+        down = (EXAMPLES / "farm" / "wanted" / "2.down").read_bytes()
+        found = [read_down(each) for each in frames_of_downlink(bits_of(down))]
+        pauses, before = [], None
+        for at, frame in enumerate(found):
+            is_pause = frame.is_speech() and frame.kind is not FrameKind.SPEECH
+            before = (0 if before is None else before + 1) if is_pause else None
+            pauses += [at] if is_pause and before % 24 == 0 else []
+        sent = self.sent_in_pause(down, "2.down")
+        self.assertTrue(pauses)
+        self.assertEqual(len([at for at, is_kept in sent if is_kept]), len(pauses))
 
 
 class Odd(InCaptures):

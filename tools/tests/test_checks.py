@@ -7,6 +7,7 @@ import importlib.util
 import io
 import os
 import re
+import shutil
 import subprocess
 import unittest
 from unittest import mock
@@ -189,6 +190,22 @@ class Packages(InFolder):
         self.assertEqual(
             said[1:3], ["E: no network", "checks/packages: couldn't install sox black"]
         )
+
+
+class PythonPrograms(InFolder):
+    @unittest.skipUnless(shutil.which("mypy"), "mypy isn't installed")
+    def test_setuptools_without_types(self):
+        cache = str(self.folder / "cache")
+        words = ["mypy", "--no-site-packages", "--cache-dir", cache, "setup.py"]
+        ended = subprocess.run(words, cwd=TOP, capture_output=True, text=True)
+        self.assertEqual((ended.returncode, ended.stderr), (0, ""), ended.stdout)
+
+    def test_git_fails(self):
+        words = ["bash", CHECKS / "python.sh"]
+        elsewhere = {**os.environ, "GIT_DIR": str(self.folder / "gone")}
+        ended = subprocess.run(words, env=elsewhere, capture_output=True, text=True)
+        self.assertEqual((ended.returncode, ended.stdout), (128, ""))
+        self.assertIn("fatal: not a git repository", ended.stderr)
 
 
 class TheList(unittest.TestCase):

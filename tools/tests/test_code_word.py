@@ -117,7 +117,7 @@ class BesideTheLibrary(unittest.TestCase):
         for name in names:
             for data in data_of_line(name.read_bytes()):
                 found[self.assert_alike(data)] += 1
-                noise = bits_of_parameters(comfort_noise(parameters_of_bits(data), source))
+                noise = bits_of_parameters(comfort_noise(parameters_of_bits(data), source, 0))
                 self.assertFalse(self.assert_alike(noise))
                 self.assertTrue(
                     self.assert_alike(

@@ -286,7 +286,7 @@ class Look(InFolder):
 
     def test_a_container_that_is_not_known(self):
         spoken = max((path.read_bytes() for path in SPOKEN), key=len)
-        for size in (160, 240):
+        for size in (76, 160, 240):
             blocks = [
                 b"\xa0\0\x07" + bytes([at & 0xFF]) + spoken[place : place + size]
                 for at, place in enumerate(range(0, len(spoken) - size, size))

@@ -197,7 +197,7 @@ class Frames(InFolder):
         self.assertEqual([word for _, word in yields(uplink)][:23], ["sid"] + 22 * ["bad"])
         descriptor = parameters_of_bits(data_of_uplink(uplink)[0])
         source = RandomSource(4)
-        made = [bits_of_parameters(comfort_noise(descriptor, source)) for _ in range(22)]
+        made = [bits_of_parameters(comfort_noise(descriptor, source, 0)) for _ in range(22)]
         bits = bits_of((EXAMPLES / "farm" / "wanted" / "2.down").read_bytes())
         sent = [data_of(frame) for frame in frames_of_downlink(bits)]
         first = sent.index(made[2])

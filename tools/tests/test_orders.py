@@ -11,9 +11,9 @@ import unittest
 from unittest import mock
 
 import support
-from support import EXAMPLES, InFolder
+from support import CODEC, EXAMPLES, InFolder
 
-from trau.runs import orders
+from trau.runs import marks, order_remarks, order_text, orders
 from trau.runs import tone_peaks
 from trau.rules.frame import bits_of, control_of
 from trau.rules.g711 import Law
@@ -311,13 +311,31 @@ class Orders(InFolder):
         self.folder.chmod(0o555)
         self.addCleanup(self.folder.chmod, 0o755)
         self.assertEqual(
-            orders.remarks_on(orders.Text.read(b"0 open 1\n").orders, self.folder).warnings,
+            order_remarks.remarks_on(
+                order_text.Text.read(b"0 open 1\n").orders, self.folder
+            ).warnings,
             [
                 (1, "1.up can't be read: the line will fail"),
                 (1, "1.down can't be written: the line will fail"),
                 (1, "1.out can't be written: the line will fail"),
             ],
         )
+
+    def test_lines_that_show_late_what_they_are(self):
+        # Idle for 2 s and for 0.6 s, then sound of another law, and frames of the other way.
+        speech = (CODEC / "speech-en-m3.pcm").read_bytes()
+        self.path("1.pcm", b"\xd5" * 16_000 + speech.translate(Law.A.table_to(Law.MU)))
+        self.path("1.up", b"\xff" * 12_000 + (CODEC / "speech-en-m3.down").read_bytes())
+        status, said = self.check(b"0 open 1\n", "--lines", self.folder)
+        self.assertEqual((status, said[-1]), (0, "orders 1 bad 0 warnings 2"))
+        self.assertIn("1.up is a downlink, its first frame at bit 96", said[0])
+        self.assertIn("1.pcm is mu-law, as it seems, and no A-law", said[1])
+        _, said = self.check(b"0 open 1 mulaw\n", "--lines", self.folder)
+        self.assertEqual(said[-1], "orders 1 bad 0 warnings 1")
+        self.path("1.pcm", b"\xd5" * 200_000)
+        self.path("1.up", b"\xff" * 50_000)
+        _, said = self.check(b"0 open 1\n", "--lines", self.folder)
+        self.assertEqual(said, ["orders 1 bad 0 warnings 0"])
 
     def test_periods_that_wont_be_used(self):
         for up, pcm, note in (
@@ -540,7 +558,7 @@ class AgainstTheProgram(InFolder):
                 content[source.randrange(len(content))] = source.choice(
                     b"0123456789 \n\rcaldownsve"
                 )
-            faults = orders.marks.read_mark(bytes(content))[0].faults
+            faults = marks.read_mark(bytes(content))[0].faults
             said = self.run_program(bytes(content), "resume")
             bad += bool(faults)
             if faults:
@@ -558,7 +576,7 @@ class AgainstTheProgram(InFolder):
             content = bytearray(good)
             for _ in range(source.randint(1, 2)):
                 content[source.randrange(len(content))] = source.choice(b"0123456789 \n\r\tdxopen")
-            faults = orders.Text.read(bytes(content)).faults
+            faults = order_text.Text.read(bytes(content)).faults
             said = self.run_program(bytes(content))
             if faults:
                 self.assertEqual(said, f"orders line {min(faults)}\n", bytes(content))
@@ -581,7 +599,9 @@ class AgainstTheProgram(InFolder):
                 form = source.choice(FORMS)
                 lines.append(f"{stamp} {form}".format(source.randint(1, 6), source.randint(1, 5)))
             content = "\n".join(lines).encode()
-            warned = orders.remarks_on(orders.Text.read(content).orders, self.folder).warnings
+            warned = order_remarks.remarks_on(
+                order_text.Text.read(content).orders, self.folder
+            ).warnings
             found = [
                 (line, int(re.search(r"\((\d)\)", what)[1]))
                 for line, what in warned

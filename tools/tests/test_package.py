@@ -211,12 +211,12 @@ class Package(InFolder):
 
     def test_the_commands_of_its_readme(self):
         package = self.unpack()
-        text = (package / "README.md").read_text().split("## With recordings of your own")[1]
+        text = (package / "README.md").read_text().split("## Hear a call")[1]
         block = re.search(r"(?:^    .*\n)+", text, re.M)[0]
         lines = [line[4:] for line in block.splitlines()]
         commands = [line[2:] for line in lines if line.startswith("$ ")]
         wanted = [line for line in lines if not line.startswith("$ ")]
-        self.assertEqual((len(commands), len(wanted)), (5, 7))
+        self.assertEqual((len(commands), len(wanted)), (4, 6))
         ended = self.said("sh", "-ec", "\n".join(commands), folder=package)
         self.assertEqual(ended, (0, "\n".join(wanted) + "\n", ""))
 
@@ -247,7 +247,7 @@ class Package(InFolder):
         self.assertEqual(self.said(package / "demo", "--model"), (2, "", said))
         self.assertRegex(
             (package / "README.md").read_text(),
-            r"In a clone the model [^\n]*:\n\n    \$ \./demo --model",
+            r"In a clone the model [^:]*:\n\n    \$ \./demo --model",
         )
 
     def test_the_gateway(self):

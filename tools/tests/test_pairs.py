@@ -4,9 +4,10 @@ none where it isn't sure."""
 import csv
 import random
 import unittest
+from array import array
 
 import e1_lines
-from support import EXAMPLES, InFolder
+from support import CODEC, EXAMPLES, InFolder
 
 from trau.recordings import lines, listening, pairs, slot_pairs
 
@@ -103,6 +104,46 @@ class Pairs(InFolder):
         self.assertEqual(found.start, 480 + 20)
         self.assertEqual(len(found.octets), 160 * len(found.good))
         self.assertEqual(found.octets, heard(self.uplinks[0], 1))
+
+
+CALLS, CALL_PERIODS, APART = 30, 170, 20
+BESIDE = 10
+
+
+@unittest.skipUnless(LIBRARY, "pairs need the C library")
+class ManyPairs(unittest.TestCase):
+    """Thirty uplinks beside the slots with the sound of all: each is paired with its own, none with
+    another."""
+
+    @classmethod
+    def setUpClass(cls):
+        voice = (EXAMPLES / "7.up").read_bytes() + (CODEC / "speech-en-m3.up").read_bytes()
+        starts = [40 * APART * call for call in range(CALLS)]
+        cls.uplinks = [(voice + voice)[start : start + 40 * CALL_PERIODS] for start in starts]
+        cls.delays = [53 + 311 * call % 700 for call in range(CALLS)]
+
+    def assert_each(self, change, how):
+        """Among the slots of ten calls each is paired with its own at its delay, and with none where
+        that one lacks."""
+        slots = []
+        for call, octets in enumerate(self.uplinks):
+            sound = b"\xd5" * self.delays[call] + change(heard(octets, call)) + b"\xd5" * 900
+            slots.append(pairs.SlotSound(0, sound))
+        for call, octets in enumerate(self.uplinks):
+            decoded = slot_pairs.decoded(octets, 0, LIBRARY)
+            near = {other % CALLS: slots[other % CALLS] for other in range(call, call + BESIDE)}
+            wanted = pairs.Match(call, self.delays[call], how)
+            self.assertEqual(pairs.match_of(decoded, near), wanted)
+            del near[call]
+            self.assertIsNone(pairs.match_of(decoded, near), call)
+
+    def test_by_equal_octets(self):
+        self.assert_each(lambda line: line, pairs.EQUAL)
+
+    def test_by_signs(self):
+        samples = LIBRARY.expand(bytes(range(256)), "alaw")
+        quieter = LIBRARY.compress(array("h", (sample // 2 for sample in samples)), "alaw")
+        self.assert_each(lambda line: line.translate(quieter), pairs.ALIKE)
 
 
 if __name__ == "__main__":

@@ -1,6 +1,7 @@
 """Tests of what `lines.py` takes of recordings: packed files, files that were cut, slots of whole lines, and a downlink as sound."""
 
 import gzip
+import mmap
 import os
 import random
 import shlex
@@ -19,6 +20,7 @@ from trau.rules.slots import octets_turned
 from test_file_kinds import e1, merged, shifted
 from test_lines import wav
 
+from trau.recordings import capture_scan
 from trau.recordings import heard_uplinks
 from trau.recordings import lines
 from trau.recordings import listening
@@ -101,6 +103,21 @@ class Packed(Recorded):
                         bits = bits_of(octets_turned(octets) if turned else octets)[bit:]
                         moved = recordings.aligned(recordings.blocks_of(path), turned, bit)
                         self.assertEqual(b"".join(moved), octets_of(bits[: len(bits) // 8 * 8]))
+
+    def test_captures_that_were_packed_are_mapped(self):
+        # Nothing of what is in them is kept in the memory, and no more than a bound on the disk.
+        capture = (DATA / "gsm.pcap").read_bytes()
+        plain, packed = self.path("1.pcap", capture), self.path("2.pcap.gz", gzip.compress(capture))
+        with capture_scan.capture_octets(packed) as octets:
+            self.assertIsInstance(octets, mmap.mmap)
+            self.assertEqual(octets[:], capture)
+        found = [self.run_tool(lines.main, "scan", name) for name in (plain, packed)]
+        self.assertEqual(found[0], found[1])
+        for command in ("scan", "pcap"):
+            words = [command, packed] + [self.folder / "7.up"] * (command == "pcap")
+            with mock.patch.object(recordings, "MOST_KEPT", 1000):
+                said = "2.pcap.gz: holds more than 1,000 octets, which aren't kept"
+                self.assert_refused(lines.main, words, said)
 
     def test_cut_or_not_packed(self):
         packed = gzip.compress(SPOKEN)
@@ -492,9 +509,13 @@ class Listening(Recorded):
             self.assertEqual(set(quiet[320 * period : 320 * period + 320]), {0})
 
     def test_samples_of_13_bits_and_frames_that_are_heard(self):
+        # Of 13 bits the library makes them, or else the model, which says so.
+        noted = "" if listening.library_beside() else f"lines.py: {listening.MODEL_AT_WORK}\n"
         for line in (FARM / "1.up", WANTED / "2.down"):
             self.lines("listen", line, self.path("law.wav"))
-            self.lines("listen", line, self.path("linear.wav"), "--linear")
+            words = ["listen", line, self.path("linear.wav"), "--linear"]
+            status, _, err = self.run_tool(lines.main, *words)
+            self.assertEqual((status, err), (0, noted))
             law, linear = (
                 array("h", self.path(f"{name}.wav").read_bytes()[44:]) for name in ("law", "linear")
             )

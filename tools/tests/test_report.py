@@ -524,6 +524,12 @@ class Utc(Recorded):
             report.main, ["losses", self.run], "report.txt: No such file or directory"
         )
 
+    def test_of_lines_that_were_unpacked(self):
+        (self.run / "report.txt").unlink()
+        (self.run / "calls.csv").write_text("call,line\n")
+        said = f"no run has made it yet; trau run <orders.txt >report.txt in {self.run} does"
+        self.assert_refused(report.main, ["losses", self.run], said)
+
     def test_of_other_lines(self):
         # A clock says nothing of a run that opens the call at another period, or whose uplink is elsewhere.
         (self.run / "orders.txt").write_text("1000 open 10\n999 open 1\n")

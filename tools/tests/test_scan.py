@@ -13,6 +13,9 @@ from capture_files import HAS_DPKT
 from support import DATA, EXAMPLES, InFolder
 
 from trau.recordings import lines
+from trau.rules.frame import bits_of, octets_of
+from trau.rules.search import FRAME_OF_DOWNLINK
+from trau.rules.slots import merge
 
 SEED = 6
 PERIODS = 700
@@ -127,6 +130,23 @@ class OfLines(Scans):
         self.assertEqual((status, err), (0, ""))
         first = next(row for row in json.loads(out) if row["kind"] == "uplink")
         self.assertEqual(first["utc"], "2026-05-04T13:00:00.600+00:00")
+
+    def test_an_order_of_bits_that_nothing_shows(self):
+        # A downlink without time bits beside zeros, on a line without the signal.
+        down = (EXAMPLES / "farm" / "wanted" / "1.down").read_bytes()[:4800]
+        bits = list(bits_of(down))
+        for frame in FRAME_OF_DOWNLINK.finditer(bits_of(down)):
+            bits[frame.start() + 316 : frame.end()] = "0" * (frame.end() - frame.start() - 316)
+        line = octets_of("".join(bits))
+        octets = bytearray(b"\xff" * 32 * 4 * len(line))
+        octets[5::32] = merge([line, *3 * [bytes(len(line))]])
+        name = self.path("line.e1", bytes(octets))
+        said = "its frames don't show the order of its bits; --lsb-first or --msb-first says it"
+        self.assert_refused(lines.main, ["scan", name], said)
+        self.assert_refused(lines.main, ["scan", name, "--of", "32"], said)
+        rows = self.scan(name, "--of", "32", "--msb-first")
+        found = [(row["slot"], row["channel"]) for row in rows if row["kind"] == "downlink"]
+        self.assertEqual(found, [("5", "0")])
 
     def test_refused(self):
         self.assert_refused(lines.main, ["scan", "-"], "standard input")

@@ -20,7 +20,7 @@ from support import DATA, InFolder
 from trau.recordings import captures
 from trau.recordings import code_word
 from trau.recordings import lines
-from trau.recordings import rtp_streams
+from trau.recordings import packet_rows, rtp_packets, rtp_streams
 from trau.recordings import uplink_frames
 from capture_files import HAS_DPKT, InCaptures, fields, rewritten, kinds_of
 from trau.rules.frame import bits_of, data_of, read_up
@@ -410,7 +410,8 @@ class Senders(InCaptures):
 
 class Jumps(unittest.TestCase):
     def packet(self, stamp, time):
-        return rtp_streams.Packet(1, 3, 0, stamp % (1 << 32), b"", time)
+        packet = rtp_packets.Packet(1, 3, 0, stamp % (1 << 32), b"", time)
+        return next(packet_rows.rows_of([packet]))
 
     def test_what_a_jump_is(self):
         first = self.packet(0, 0.0)

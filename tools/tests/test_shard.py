@@ -18,7 +18,7 @@ from test_timeline import lay
 
 from trau.recordings import listening
 from trau.runs import run_texts
-from trau.runs import shard
+from trau.runs import farm_join, farm_parts, folder_lock, part_scripts, shard
 
 
 def restricted(report, orders, numbers):
@@ -41,7 +41,9 @@ def script(cut, part):
 class Components(unittest.TestCase):
     def components(self, *lines):
         text = "".join(f"0 {line}\n" for line in lines).encode()
-        return [sorted(calls) for calls in shard.components(run_texts.read_orders("text", text))]
+        return [
+            sorted(calls) for calls in farm_parts.components(run_texts.read_orders("text", text))
+        ]
 
     def test_bridges_join(self):
         self.assertEqual(self.components(), [])
@@ -60,11 +62,11 @@ class Components(unittest.TestCase):
         pieces = [
             (periods, frozenset([call])) for call, periods in enumerate((5, 50, 20, 20, 15), 1)
         ]
-        parts = shard.parts_of(pieces, 2)
+        parts = farm_parts.parts_of(pieces, 2)
         self.assertEqual(sorted(part.periods for part in parts), [55, 55])
-        self.assertEqual(len(shard.parts_of(pieces, 9)), 5)
+        self.assertEqual(len(farm_parts.parts_of(pieces, 9)), 5)
         # Calls without lines are spread too.
-        parts = shard.parts_of([(0, frozenset([call])) for call in range(8)], 4)
+        parts = farm_parts.parts_of([(0, frozenset([call])) for call in range(8)], 4)
         self.assertEqual([len(part.calls) for part in parts], 4 * [2])
 
 
@@ -87,7 +89,7 @@ class Farms(InFolder):
 
     def give_reports(self, cut, report):
         """Gives each part the report that its run has."""
-        read = shard.Cut.read(cut)
+        read = farm_join.Cut.read(cut)
         for number, numbers in enumerate(read.orders_of_parts):
             own = restricted(report, read.orders, numbers)
             (cut / str(number) / "report.txt").write_text(own.text())
@@ -105,7 +107,7 @@ class Farms(InFolder):
     def test_what_parts_hold(self):
         farm = self.lay("harsh")
         cut = self.cut(farm, 3)
-        read = shard.Cut.read(cut)
+        read = farm_join.Cut.read(cut)
         self.assertEqual(len(read.orders_of_parts), 3)
         seen = Counter()
         for number, numbers in enumerate(read.orders_of_parts):
@@ -152,7 +154,7 @@ class Farms(InFolder):
         self.assertEqual(sorted(told), [[1, 2], [3], [4]])
 
     def own_orders(self, cut):
-        read = shard.Cut.read(cut)
+        read = farm_join.Cut.read(cut)
         return [[read.orders[number - 1] for number in numbers] for numbers in read.orders_of_parts]
 
     def test_copies_go_to_the_farm(self):
@@ -232,10 +234,10 @@ class Farms(InFolder):
         # 64 MB and 70 kB for each call of the part with the most; 5 minutes and 0.1 ms for each period of the heaviest.
         words = shard.parser().parse_args(["cut", "farm", "cut", "--parts", "2"])
         parts = [
-            shard.FarmPart(frozenset(range(1000)), 1),
-            shard.FarmPart(frozenset([5000]), 36_000_000),
+            farm_parts.FarmPart(frozenset(range(1000)), 1),
+            farm_parts.FarmPart(frozenset([5000]), 36_000_000),
         ]
-        script = shard.array_of(words, parts)
+        script = part_scripts.array_of(words, parts)
         self.assertIn("--mem=134M\n", script)
         self.assertIn("--time=65\n", script)
 
@@ -290,7 +292,7 @@ class Farms(InFolder):
     def test_a_part_while_a_run_has_the_farm(self):
         farm = self.lay("clean")
         cut = self.cut(farm, 3)
-        with shard.alone_in(farm):
+        with folder_lock.alone_in(farm):
             ran = subprocess.run(
                 ["sh", cut / "0" / "run.sh"],
                 env={**os.environ, "TRAU": "true"},

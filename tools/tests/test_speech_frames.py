@@ -6,8 +6,8 @@ import unittest
 
 from support import DATA
 
-from trau.recordings.code_word import Marker, kind_of
-from trau.recordings.speech_frames import is_plain_speech
+from trau.recordings.code_word import Marker, errors_of, kind_of
+from trau.recordings.speech_frames import are_speech, errors_of_frames
 from trau.recordings.uplink_frames import UplinkFrames
 from trau.rules.frame import FrameKind
 from trau.rules.parameters import data_of_gsm, gsm_of_data
@@ -33,19 +33,26 @@ class SameAsByTheRules(unittest.TestCase):
     """Both ways give the same octets and counts."""
 
     def test_kinds(self):
-        for frame in frames():
-            is_speech = kind_of(data_of_gsm(frame)) is FrameKind.SPEECH
-            self.assertEqual(is_plain_speech(frame), is_speech)
+        given = frames()
+        datas = [data_of_gsm(frame) for frame in given]
+        errors = bytes(errors_of(data) for data in datas)
+        self.assertEqual(errors_of_frames(b"".join(given)), errors)
+        speech = bytes(kind_of(data) is FrameKind.SPEECH for data in datas)
+        self.assertEqual(are_speech(b"".join(given)), speech)
+        self.assertEqual(b"".join(map(are_speech, given)), speech)
 
     def test_uplinks(self):
         for keeps in (False, True):
             for dtxd in (False, True):
                 one, other = (UplinkFrames(Marker(keeps, dtxd)) for _ in range(2))
-                given = [*frames(), b"", *frames()[:9], b""]
-                one.take_gsm(given)
-                other.take_all(data_of_gsm(frame) if frame else None for frame in given)
+                for given in (frames(), frames()[:9], frames()[:1]):
+                    one.take_gsm(b"".join(given))
+                    one.lose()
+                    other.take_all([*map(data_of_gsm, given), None])
                 self.assertEqual(one.line(), other.line())
                 self.assertEqual(one.marker.counts, other.marker.counts)
+                self.assertEqual(one.drained(), other.drained())
+                self.assertEqual(one.line(), b"")
 
 
 if __name__ == "__main__":

@@ -26,7 +26,7 @@ from test_orders import MARK_FAULTS
 
 from trau.packing import build
 from trau.packing import build_for
-from trau.runs import orders
+from trau.runs import order_text
 from trau.packing import trau_words
 
 CRATES = """# crate: the crates that it stands on
@@ -520,7 +520,8 @@ class TheFirstStart(Started):
                 "pool_core",
                 "trau_c",
             }
-            | {"packet_tests", "rtp_buffer", "rtp_packet", "rtp_stream"},
+            | {"packet_tests", "rtp_buffer", "rtp_packet", "rtp_stream"}
+            | {"call_coders", "memory_folder", "rtp_call", "rtp_session"},
         )
         self.assert_refused(
             build.main, ["--top", self.top, "--program", "gone"], "has no line of gone"
@@ -1086,7 +1087,7 @@ class FirstBadLine(unittest.TestCase):
                 capture_output=True,
                 check=True,
             )
-            bad = min(orders.Text.read(text).faults, default=None)
+            bad = min(order_text.Text.read(text).faults, default=None)
             self.assertEqual(
                 ran.stdout.decode().strip(), "" if bad is None else f"line {bad}", text
             )
@@ -1186,7 +1187,7 @@ class Demo(Started):
     def test_says_what_there_is_where_nothing_is_built(self):
         status, _, err = self.trau(name="demo")
         self.assertIn(
-            "demo: now the program itself is proved and built, once: that took 14:26 and 17:36 minutes on four processors.",
+            "demo: now the program itself is proved and built, once: that took 14 to 20 minutes on four processors.",
             err,
         )
         self.assertLess(err.index("Control-C stops it"), err.index("crate 1 of 4"))

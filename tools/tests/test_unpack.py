@@ -13,22 +13,26 @@ import e1_lines
 from capture_files import HAS_DPKT
 from support import DATA, EXAMPLES, InFolder
 
-from trau.recordings import lines
+from trau.recordings import lines, listening, unpack_line
 from trau.recordings.capture_walk import packets
+from trau.recordings.e1_line import LineBlock
 from trau.recordings.scan_rows import ScanRow
 from trau.recordings.unpacked_folder import UnpackedCall, UnpackedLine, number_calls
+from trau.rules.frame import bits_of, octets_of
 from trau.runs import report
 from trau.runs.recording_times import RecordingClock
 
 PERIODS = 500
 PROGRAM = os.environ.get("TRAU_PROGRAM")
+HAS_LIBRARY = listening.library_beside() is not None
 SEED = 8
 GSM_CAPTURES = ("gsm.pcap", "osmo.pcap", "sources.pcap")
 ALL_CAPTURES = (*GSM_CAPTURES, "ffmpeg.pcap", "pcma.pcapng", "pcmu.pcap", "gstreamer.pcap")
 
 
 def joined_captures(names):
-    """Captures as one, as mergecap does it: each packet at its time, in pcap of nanoseconds."""
+    """Captures as one, each packet at its time, in pcap of nanoseconds. (This is what mergecap of
+    Wireshark does, but no test has run it: its package brings 110 MB.)"""
     found = sorted(
         (each for name in names for each in packets((DATA / name).read_bytes())),
         key=lambda each: each.time,
@@ -50,9 +54,11 @@ class Unpacks(InFolder):
         table."""
         folder = self.folder / "calls"
         status, out, err = self.run_tool(lines.main, "unpack", name, folder, *words)
-        self.assertEqual((status, err), (0, ""))
+        note = f"{name}: no pairs are sought: that needs the C library, which clib/build makes\n"
         with open(folder / "calls.csv", newline="") as file:
             rows = list(csv.DictReader(file))
+        has_both = {"up", "pcm"} <= {row["line"] for row in rows} and rows[0]["slot"]
+        self.assertEqual((status, err), (0, "" if HAS_LIBRARY or not has_both else note))
         for row in rows:
             octets = (folder / f"{row['call']}.{row['line']}").read_bytes()
             self.assertEqual(row["sha256"], hashlib.sha256(octets).hexdigest())
@@ -258,6 +264,33 @@ class BothWays(Unpacks):
         capture = self.capture([(1, 2, 8, 0, 50), (2, 1, 8, 0, 50), (1, 2, 8, 80, 50)])
         _, _, rows = self.unpack(self.path("three.pcap", capture))
         self.assertEqual([row["pair"] for row in rows], ["2", "1", ""])
+
+
+class Channels(unittest.TestCase):
+    """The channels of all slots together."""
+
+    def channel(self, slot, number):
+        """A channel of a slot, pair of bits by pair of bits."""
+        bits = bits_of(slot)
+        return octets_of("".join(bits[at : at + 2] for at in range(2 * number, len(bits), 8)))
+
+    def test_blocks_of_any_length(self):
+        source, frames = random.Random(SEED), 407
+        line = bytearray(source.randbytes(32 * frames))
+        line[32 * 200 : 32 * 203] = b"\xff" * 96  # frames that the recording doesn't have
+        groups, parts, at = unpack_line.ChannelGroups(32), [], 0
+        while at < frames:
+            end = 200 if at < 200 <= at + 50 else min(frames, at + source.randrange(1, 50))
+            found = groups.take(LineBlock(bytes(line[32 * at : 32 * end]), at, False))
+            self.assertEqual(found.first, sum(map(len, parts)) // 128)
+            parts.append(found.octets)
+            at = 203 if end == 200 else end
+        whole = b"".join([*parts, groups.rest().octets])
+        line += b"\xff" * (-len(line) % 128)
+        for slot in range(32):
+            for number in range(4):
+                wanted = self.channel(bytes(line[slot::32]), number)
+                self.assertEqual(whole[32 * number + slot :: 128], wanted)
 
 
 class ManyCalls(unittest.TestCase):

@@ -10,14 +10,14 @@ from trau.rules.profile import MOST_PERIODS
 from test_timeline import lay
 
 from trau.runs import run_texts
-from trau.runs import shard
+from trau.runs import folder_lock
 from trau.runs import watch
 
 # The clock stands still at this time, except while watch.py sleeps.
 NOW = 1_700_000_000
 
 
-SHOWS_LOCKS = HAS_LOCKS and watch.LOCKS.exists()
+SHOWS_LOCKS = HAS_LOCKS and folder_lock.LOCKS.exists()
 
 
 class Watching(InFolder):
@@ -118,6 +118,33 @@ class Watching(InFolder):
         self.assertEqual((status, err), (0, ""))
         self.assertRegex(out, r"^watch periods \d+ of \d+, \d+ %, calls done 5 of 8\n$")
 
+    def test_bad_folders_beside_good_ones(self):
+        bad, empty = self.folder / "bad", self.folder / "empty"
+        for folder in (bad, empty):
+            folder.mkdir()
+        (bad / "orders.txt").write_bytes(b"0 opne 1\n")
+        status, out, err = self.watch(empty, self.folder, "--once")
+        self.assertEqual((status, out), (1, "watch periods 386 of 386, 100 %, calls done 4 of 4\n"))
+        no_orders = f"watch.py: {empty}: no run in this folder: there is no orders.txt\n"
+        self.assertEqual(err, no_orders)
+        status, also_out, err = self.watch(empty, bad, self.folder, self.folder / "gone", "--once")
+        self.assertEqual((status, also_out), (2, out))
+        self.assertIn(no_orders, err)
+        self.assertIn(f"watch.py: {bad / 'orders.txt'}: line 1 isn't an order", err)
+        self.assertEqual(err.count("\n"), 3)
+        self.assertEqual(self.watch(empty, bad, "--once")[:2], (2, ""))
+
+    def test_one_run_stalls_and_another_ended_without_a_report(self):
+        other = self.folder / "other"
+        other.mkdir()
+        lay("clean", other)
+        self.put("report.txt", 0, 10)
+        self.path("other/report.txt", b"no memory\n")
+        status, _, err = self.watch(self.folder, other, "--plain", "--patience", "6")
+        stalled = "watch.py: no growth for 6 s: stalled or ended\n"
+        ended = f"watch.py: {other}: ended without a report: no memory\n"
+        self.assertEqual((status, err), (1, stalled + ended))
+
     def test_a_run_without_a_report(self):
         self.path("report.txt", b"no memory\n")
         status, _, err = self.watch(self.folder, "--plain")
@@ -175,11 +202,11 @@ class Watching(InFolder):
     @unittest.skipUnless(SHOWS_LOCKS, "there is no flock, or the system shows no locks")
     def test_the_lock(self):
         self.assertFalse(watch.is_locked(self.folder))
-        with shard.alone_in(self.folder):
+        with folder_lock.alone_in(self.folder):
             self.assertTrue(watch.is_locked(self.folder))
         self.assertFalse(watch.is_locked(self.folder))
         self.assertIsNone(watch.is_locked(self.folder / "gone"))
-        with mock.patch.object(watch, "LOCKS", self.folder / "gone"):
+        with mock.patch.object(folder_lock, "LOCKS", self.folder / "gone"):
             self.assertIsNone(watch.is_locked(self.folder))
 
     def test_refused(self):

@@ -8,7 +8,7 @@ import unittest
 
 from support import TOOLS, TOP, InFolder
 
-from trau.runs import orders
+from trau.rules.orders import FORMS
 from trau.packing import trau_words
 from trau.rules import profile
 from trau.command_line.word_faults import grouped
@@ -31,9 +31,9 @@ class Documents(unittest.TestCase):
     def test_commands(self):
         pages = {path.stem: path.read_text() for path in (DOCS / "commands").glob("*.md")}
         self.assertEqual(set(pages), {command.name for command in trau_words.COMMANDS})
-        readme = (TOP / "README.md").read_text()
+        table = (DOCS / "COMMANDS.md").read_text()
         for command in trau_words.COMMANDS:
-            self.assertRegex(readme, rf"\[?`trau {command.name}( C)?( W)?`")
+            self.assertRegex(table, rf"\[?`trau {command.name}( C)?( W)?`")
             shown = re.search(r"^    trau (.*)$", pages[command.name], re.M)[1].split()
             self.assertEqual(shown[0], command.name)
             if command.words.startswith("C"):
@@ -118,7 +118,7 @@ class Documents(unittest.TestCase):
         table = text[text.index("| Order |") : text.index("## When")]
         shown = {" ".join(words.split()[1:2]) for words in re.findall(r"`(S [^`]+)`", table)}
         self.assertEqual(shown, {words.split()[1] for words, _ in trau_words.ORDERS})
-        self.assertEqual(shown, set(orders.FORMS))
+        self.assertEqual(shown, set(FORMS))
 
     def test_help(self):
         self.assertEqual(

@@ -18,7 +18,7 @@ from trau.command_line.words import Refusal, as_started, printable
 from trau.programs import INTERRUPTED, UNFORESEEN
 
 
-FAILED = 2
+FAILED = Refusal.status
 NO_MEMORY = "not enough memory"
 
 # The main function of a tool: it takes the words of the command line and returns the exit status.
@@ -78,6 +78,7 @@ def status_of(name: str, main: Main, words: Sequence[str]) -> int:
         return int(end.code or 0)
     except Refusal as refusal:
         complain(name, str(refusal))
+        return refusal.status
     except OSError as failure:
         complain(name, reason_of(failure))
     except MemoryError:
@@ -101,8 +102,11 @@ def for_each(name: str, items: Iterable[Item], does: Callable[[Item], None]) -> 
     for item in items:
         try:
             does(item)
-        except (Refusal, MemoryError) as refusal:
-            complain(name, str(refusal) or NO_MEMORY)
+        except Refusal as refusal:
+            complain(name, str(refusal))
+            worst = max(worst, refusal.status)
+        except MemoryError:
+            complain(name, NO_MEMORY)
             worst = max(worst, FAILED)
         except OSError as failure:
             if failure.filename is None:  # standard output, which won't take the others either

@@ -12,7 +12,10 @@ from trau.rules.numbers import number
 
 
 class Refusal(Exception):
-    """Input that a tool doesn't take; the text says why, in one line."""
+    """Input that a tool doesn't take; the text says why, in one line. The tool's status is then
+    this one."""
+
+    status = 2
 
 
 # A tool in a text: the name of its file, with words after it or alone.

@@ -59,9 +59,9 @@ from trau.programs import {name}
 sys.exit({name}())
 """
 # What is packed of folders: the files that git knows there and that have such names. Of tools/ it
-# isn't what proves, builds and packs; tests/data has recordings that commands in documents take.
+# isn't what proves, builds, packs and needs suite/; tests/data has recordings that commands in documents take.
 FOLDERS = {
-    "tools": r"(?!build|trau_)\w+\.(py|txt|awk)",
+    "tools": r"(?!build|check|trau_)\w+\.(py|txt|awk)",
     "python/trau": r".*",
     "gateway": r"(?!tests/).*",
     "examples": r"README\.md|7\.up|farm/(\d+\.(up|pcm)|orders\.txt|wanted/[\w.]+)",

@@ -8,7 +8,7 @@ import enum
 from dataclasses import dataclass
 from typing import Callable, Dict, List, Optional, Tuple
 
-from trau.rules.orders import Order
+from trau.rules.orders import Order, Verb
 from trau.rules.profile import MOST_PERIODS
 from trau.rules.report import Reply
 
@@ -80,18 +80,18 @@ class Board:
         """The first reason in the stated order for which an order is refused, or none
         (docs/OPERATORS.md, "Refusals")."""
         first = order.calls[0]
-        if order.verb == "open":
+        if order.verb is Verb.OPEN:
             if first in self.ends:
                 return Reply(OrderRefusal.ALREADY_OPEN, first)
             return Reply(OrderRefusal.NUMBER_USED, first) if first in self.opened else Reply()
-        if order.verb == "bridge" and first == order.calls[1]:
+        if order.verb is Verb.BRIDGE and first == order.calls[1]:
             return Reply(OrderRefusal.SAME_CALL, first)
         for call in order.calls:
             if call not in self.ends:
                 return Reply(OrderRefusal.NOT_OPEN, call)
-        if order.verb == "unbridge" and first not in self.bridge_of:
+        if order.verb is Verb.UNBRIDGE and first not in self.bridge_of:
             return Reply(OrderRefusal.NOT_BRIDGED, first)
-        return self.reply_to_bridge(order) if order.verb == "bridge" else Reply()
+        return self.reply_to_bridge(order) if order.verb is Verb.BRIDGE else Reply()
 
     def reply_to_bridge(self, order: Order) -> Reply:
         """Why a bridge of open calls is refused: a call is bridged, or its bridge was ended in this
@@ -107,18 +107,18 @@ class Board:
     def accept(self, order: Order) -> None:
         """Does what an accepted order says (docs/OPERATORS.md, "Orders")."""
         first = order.calls[0]
-        if order.verb == "open":
+        if order.verb is Verb.OPEN:
             self.opened[first] = order
             self.ends[first] = self.end_of(order)
-        elif order.verb == "bridge":
+        elif order.verb is Verb.BRIDGE:
             bridge = Bridge((first, order.calls[1]), order.stamp)
             self.bridges.append(bridge)
             self.bridge_of.update(dict.fromkeys(order.calls, bridge))
-        elif order.verb in ("unbridge", "close"):
+        elif order.verb in (Verb.UNBRIDGE, Verb.CLOSE):
             ended = self.end_bridge(first)
             if ended:
                 ended.end = order.stamp
                 self.ended.update(dict.fromkeys(ended.calls, ended))
-            if order.verb == "close":
+            if order.verb is Verb.CLOSE:
                 del self.ends[first]
                 self.closed[first] = order.stamp

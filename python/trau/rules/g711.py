@@ -26,7 +26,7 @@ class Law(enum.Enum):
 
     def title(self) -> str:
         """Its name in texts."""
-        return "A-law" if self is Law.A else "mu-law"
+        return {Law.A: "A-law", Law.MU: "mu-law"}[self]
 
     def idle(self) -> int:
         """The octet of an idle line (this project's profile): of A-law the least positive one, of

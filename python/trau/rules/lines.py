@@ -25,3 +25,8 @@ def whole_periods(folder: Path, call: int, side: str) -> int:
     """How many whole periods a call's line in a folder has; none if it isn't a file."""
     line = folder / name_of(call, side)
     return line.stat().st_size // OCTETS_OF_SIDE[side] if line.is_file() else 0
+
+
+def incoming_periods(folder: Path, call: int) -> int:
+    """How many whole periods both incoming lines of a call in a folder have."""
+    return min(whole_periods(folder, call, side) for side in INCOMING)

@@ -20,7 +20,7 @@ class RandomSource:
         return self.value * below // profile.RANDOM_MODULUS
 
 
-def comfort_noise(base: Parameters, source: RandomSource, fall: int = 0) -> Parameters:
+def comfort_noise(base: Parameters, source: RandomSource, fall: int) -> Parameters:
     """Comfort noise that has fallen so often from where it stands: in each block draws of the grid
     and of thirteen pulses (docs/PROFILE.md, "Comfort noise")."""
 

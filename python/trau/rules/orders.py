@@ -1,20 +1,32 @@
 """The grammar of orders: text in, orders or the first bad line out (docs/OPERATORS.md, "Orders";
 this project's profile)."""
 
-from typing import List, NamedTuple, Tuple
+import enum
+from typing import Dict, List, NamedTuple, Tuple
 
 from trau.rules import profile
 from trau.rules.g711 import Law
 from trau.rules.numbers import number
 
 
+class Verb(str, enum.Enum):
+    """What an order does; the value is its name in texts (docs/OPERATORS.md, "Orders")."""
+
+    OPEN = "open"
+    CLOSE = "close"
+    BRIDGE = "bridge"
+    UNBRIDGE = "unbridge"
+    LEVEL = "level"
+    DTX = "dtx"
+
+
 class Order(NamedTuple):
-    """An order: its line, counted from 1, the period at whose start it takes effect, its name, the
-    calls that it names, and its words."""
+    """An order: its line, counted from 1, the period at whose start it takes effect, what it does,
+    the calls that it names, and its words."""
 
     number: int
     stamp: int
-    verb: str
+    verb: Verb
     calls: Tuple[int, ...]
     words: str
 
@@ -34,13 +46,13 @@ class Order(NamedTuple):
 
 
 # What may follow the name of an order.
-FORMS = {
-    "open": (("call",), ("call", "law")),
-    "close": (("call",),),
-    "bridge": (("call", "call"),),
-    "unbridge": (("call",),),
-    "level": (("call", "level"),),
-    "dtx": (("call", "mode"),),
+FORMS: Dict[str, Tuple[Tuple[str, ...], ...]] = {
+    Verb.OPEN: (("call",), ("call", "law")),
+    Verb.CLOSE: (("call",),),
+    Verb.BRIDGE: (("call", "call"),),
+    Verb.UNBRIDGE: (("call",),),
+    Verb.LEVEL: (("call", "level"),),
+    Verb.DTX: (("call", "mode"),),
 }
 # The words of a law and of a mode; A-law is named by no word.
 NAMES = {"law": (str(Law.MU),), "mode": ("on", "off", "uplink")}
@@ -107,7 +119,7 @@ def read_order(place: int, line: str, least_stamp: int = 0) -> Order:
         raise NoOrder("isn't an order")
     if int(stamp) < least_stamp:
         raise NoOrder("has a stamp below that of the line before")
-    return Order(place, int(stamp), words[0], calls, " ".join(words))
+    return Order(place, int(stamp), Verb(words[0]), calls, " ".join(words))
 
 
 def call_of(word: str) -> int:

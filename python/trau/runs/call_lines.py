@@ -6,12 +6,12 @@ from typing import Dict, NamedTuple
 
 from trau.command_line.side_by_side import results_of
 from trau.pictures import looks
-from trau.rules.lines import name_of
+from trau.rules.lines import DOWN, OUT, PCM, name_of
 from trau.rules.profile import FRAME_OCTETS, PCM_OCTETS
 from trau.runs import levels
 from trau.runs.run_lines import RecordedCall, Run
 
-LEVEL_SIDES = ("pcm", "out")
+LEVEL_SIDES = (PCM, OUT)
 LOWEST_LEVEL = -60  # of a picture, in dBm0
 QUARTERS = 4
 PERIODS_TOGETHER = 5000  # of a line whose levels are taken
@@ -62,9 +62,9 @@ def lines_of(folder: Path, call: RecordedCall, columns: range, with_levels: bool
         side: levels_of(folder, call, side, range(first, last, columns.step)) for side in sides
     }
     down = b""
-    if (folder / f"{call.number}.down").is_file():
+    if (folder / name_of(call.number, DOWN)).is_file():
         # A frame that begins in the last period has its control bits after it.
-        down = looks.down_looks(call, call.octets(folder, "down", first, last + 1), first, last)
+        down = looks.down_looks(call, call.octets(folder, DOWN, first, last + 1), first, last)
     return CallLines(down, found)
 
 

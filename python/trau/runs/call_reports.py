@@ -8,7 +8,7 @@ from typing import Any, Callable, Dict, List, Optional, Sequence, Tuple
 
 from trau.command_line.side_by_side import PROCESSES, results_of
 from trau.command_line.words import one_of, option
-from trau.rules.lines import SIDES, name_of, whole_periods
+from trau.rules.lines import DOWN, PCM, SIDES, UP, name_of, whole_periods
 from trau.rules.profile import FRAME_OCTETS, PERIODS_A_SECOND, SILENT_FROM_LOST
 from trau.rules.report import COUNTS, Report, ReportedBridge
 from trau.runs import frame_kinds, read_aloud, run_lines, run_texts
@@ -107,8 +107,8 @@ def unused_periods(folder: Path, call: RecordedCall, side: str) -> Optional[int]
 def frames_of_downlink(folder: Path, call: RecordedCall) -> Dict[DownlinkKind, int]:
     """How many frames of each kind a call's downlink has. One that failed may be missing, a folder
     or a device, which never ends."""
-    name = folder / f"{call.number}.down"
-    octets = b"" if "down" in call.failed and not name.is_file() else call.octets(folder, "down")
+    name = folder / name_of(call.number, DOWN)
+    octets = b"" if DOWN in call.failed and not name.is_file() else call.octets(folder, DOWN)
     codes = b"".join(run_lines.sent(made, octets) for made in call.made)
     return {sent: codes.count(code) for code, sent in enumerate(run_lines.SENTS)}
 
@@ -117,7 +117,7 @@ def codes_of_others(folder: Path, call: RecordedCall) -> Counter:
     """C1 to C5 of the frames of a call's uplink that count as `other`."""
     if not call.span.counts["other"]:
         return Counter()
-    return Counter(frame_kinds.codes_of_others(call.octets(folder, "up")))
+    return Counter(frame_kinds.codes_of_others(call.octets(folder, UP)))
 
 
 def note_on_others(row: Row) -> Optional[str]:
@@ -176,8 +176,8 @@ def row_of_call(folder: Path, call: RecordedCall, bridges: Sequence[ReportedBrid
         "down_descriptors": down[DownlinkKind.VALID_SID],
         "down_idle": down[DownlinkKind.IDLE],
         "down_handed": down[DownlinkKind.HANDED],
-        "unused_up": unused_periods(folder, call, "up"),
-        "unused_pcm": unused_periods(folder, call, "pcm"),
+        "unused_up": unused_periods(folder, call, UP),
+        "unused_pcm": unused_periods(folder, call, PCM),
         "others": frame_kinds.counted(others),
         "codes": others,
     }

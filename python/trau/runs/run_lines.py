@@ -16,7 +16,7 @@ from trau.command_line.side_by_side import results_of
 from trau.command_line.words import Refusal
 from trau.rules.frame import bits_of, data_of
 from trau.rules.g711 import Law
-from trau.rules.lines import OCTETS_OF_SIDE, OUTGOING, SIDES, name_of
+from trau.rules.lines import OCTETS_OF_SIDE, OUTGOING, SIDES, UP, name_of
 from trau.rules.orders import Order
 from trau.rules.parameters import SILENCE, bits_of_parameters
 from trau.rules.profile import DOWN_IDLE, DOWN_SPEECH, FRAME_BITS, FRAME_OCTETS, PCM_OCTETS
@@ -258,8 +258,8 @@ class RecordedCall:
     def search(self, folder: Path, bridges: Sequence[ReportedBridge]) -> RecordedCall:
         """The call itself, once it has searched the uplink over its periods, and held the report to
         it."""
-        name = folder / f"{self.number}.up"
-        octets = self.octets(folder, "up")
+        name = folder / name_of(self.number, UP)
+        octets = self.octets(folder, UP)
         if len(octets) < self.periods() * FRAME_OCTETS:
             raise Refusal(
                 f"{name}: has {len(octets)} octets, fewer than {self.periods()} periods need"

@@ -15,7 +15,7 @@ from trau.command_line.words import Refusal, as_started, option
 from trau.rules.board import OrderRefusal
 from trau.rules.g711 import Law
 from trau.rules.lines import SIDES
-from trau.rules.orders import BadLine, Order, TooLong, orders_of
+from trau.rules.orders import BadLine, Order, TooLong, Verb, orders_of
 from trau.rules.profile import MOST_CALLS, MOST_PERIODS
 from trau.rules.report import COUNTS, FailedLine, Reply, Report, ReportedBridge, ReportedCall
 
@@ -153,13 +153,23 @@ def report_of(name: Path, content: bytes) -> Report:
     return report
 
 
+def missing_report(name: Path) -> str:
+    """Why a folder has no report: its lines were unpacked, or are a gateway's recording, and no run
+    has processed them yet. Empty if that isn't known."""
+    folder = name.parent
+    if (folder / "calls.csv").is_file():
+        return f"no run has made it yet; trau run <orders.txt >report.txt in {folder} does"
+    if (folder / "clock.txt").is_file():
+        replays = as_started(f"gateway.py check {shlex.quote(str(folder))} --again NEW")
+        return f"a recording has no report; {replays} makes a run of it, in the folder NEW"
+    return ""
+
+
 def read_report(name: Path) -> Report:
-    """Reads the file of a report. The recording of a gateway has none before it is replayed."""
-    if not name.exists() and (name.parent / "clock.txt").is_file():
-        replays = as_started(f"gateway.py check {shlex.quote(str(name.parent))} --again NEW")
-        raise Refusal(
-            f"{name}: a recording has no report; {replays} makes a run of it, in the folder NEW"
-        )
+    """Reads the file of a report."""
+    missing = "" if name.exists() else missing_report(name)
+    if missing:
+        raise Refusal(f"{name}: {missing}")
     return report_of(name, read_file(name))
 
 
@@ -179,10 +189,10 @@ def hold_to_orders(name: Path, report: Report, orders: Sequence[Order], periods:
             f" these orders to period {periods} give {len(executed)} and {len(orders) - len(executed)}"
         )
     accepted = [order for order, reply in zip(executed, report.replies) if reply.refusal is None]
-    opened = {order.calls[0]: order.stamp for order in accepted if order.verb == "open"}
+    opened = {order.calls[0]: order.stamp for order in accepted if order.verb is Verb.OPEN}
     if opened != {call: span.start for call, span in report.calls.items()}:
         raise Refusal(f"{name}: has other calls than these orders open, or at other periods")
-    bridged = [(order.calls, order.stamp) for order in accepted if order.verb == "bridge"]
+    bridged = [(order.calls, order.stamp) for order in accepted if order.verb is Verb.BRIDGE]
     if bridged != [(bridge.calls, bridge.start) for bridge in report.bridges]:
         raise Refusal(f"{name}: has other bridges than these orders make")
     for call, span in report.calls.items():
@@ -198,7 +208,7 @@ def laws_of(report: Report, orders: Sequence[Order]) -> Dict[int, Law]:
     return {
         order.calls[0]: order.law()
         for order, reply in answered
-        if order.verb == "open" and reply.refusal is None
+        if order.verb is Verb.OPEN and reply.refusal is None
     }
 
 

@@ -4,7 +4,8 @@ in a folder.
 It reads the sizes of the lines, and writes nothing. A run writes its report at its end, in one
 piece. While the report's file is empty and a process has the lock of the folder, the run goes on;
 outgoing lines that are older than this file are from an earlier run. Status 1: there is no run, or
-it ended without a report, or its lines have stopped growing.
+it ended without a report, or its lines have stopped growing. Of several folders those are watched
+that have a run; each other one gets a line on standard error, and the status is that of the worst.
 """
 
 from __future__ import annotations
@@ -19,14 +20,15 @@ from dataclasses import dataclass
 from pathlib import Path
 from typing import Callable, Dict, Iterator, List, NamedTuple, Optional, Sequence
 
-from trau.command_line.ends import complain, tool
+from trau.command_line.ends import for_each, tool
 from trau.command_line.files import read_file
 from trau.command_line.words import Refusal, Words, number_within, option, switch
 from trau.rules.board import Board
-from trau.rules.lines import INCOMING, OUTGOING, name_of, whole_periods
+from trau.rules.lines import OUT, OUTGOING, incoming_periods, name_of, whole_periods
 from trau.rules.orders import Order
 from trau.rules.profile import MOST_PERIODS
 from trau.runs import run_texts
+from trau.runs.folder_lock import is_locked
 
 
 def expected_periods(folder: Path, orders: Sequence[Order], periods: int) -> Dict[int, int]:
@@ -35,14 +37,16 @@ def expected_periods(folder: Path, orders: Sequence[Order], periods: int) -> Dic
     for order in orders:
         board.execute(order)
     for call, opening in board.opened.items():
-        lines = min(whole_periods(folder, call, side) for side in INCOMING)
+        lines = incoming_periods(folder, call)
         end = min(board.closed.get(call, periods), periods)
         expected[call] = max(0, min(lines, end - opening.stamp))
     return expected
 
 
-class NoRun(Exception):
+class NoRun(Refusal):
     """There is no run to watch, or it doesn't go on. The text says why, in one line."""
+
+    status = 1
 
 
 class RunProgress(NamedTuple):
@@ -55,18 +59,8 @@ class RunProgress(NamedTuple):
     ended: bool
 
 
-LOCKS = Path("/proc/locks")
+TOOL = "watch.py"
 NOT_LOCKED = "no process of this machine has the folder's lock"
-
-
-def is_locked(folder: Path) -> Optional[bool]:
-    """Whether a process has a folder's lock, as `trau` takes it, or None where the system doesn't
-    show locks. (Trying the lock might keep out a run that starts just then.)"""
-    try:
-        locks, inode = LOCKS.read_text().splitlines(), folder.stat().st_ino
-    except OSError:
-        return None
-    return any(" FLOCK " in lock and lock.split()[-3].endswith(f":{inode}") for lock in locks)
 
 
 @dataclass
@@ -102,10 +96,10 @@ class Watched:
 
     def done(self, call: int, began: float) -> int:
         """How many periods of a call are on its Out line."""
-        line = self.folder / f"{call}.out"
+        line = self.folder / name_of(call, OUT)
         if not line.is_file() or line.stat().st_mtime < began:
             return 0
-        return min(self.expected[call], whole_periods(self.folder, call, "out"))
+        return min(self.expected[call], whole_periods(self.folder, call, OUT))
 
     def progress(self) -> RunProgress:
         """How far this run is. The lock is looked at first: a run lets it go after its report is
@@ -182,22 +176,21 @@ def display(
         yield lambda progress, _: bar.update(progress.periods - bar.n)
 
 
-def text_of_ends(runs: Sequence[Watched]) -> List[str]:
-    """What runs printed that ended without a report."""
-    ends = []
-    for run in (run for run in runs if run.ended):
-        text = read_file(run.report)
-        try:
-            run_texts.report_of(run.report, text)
-        except Refusal:
-            first = text.decode("latin-1").split("\n")[0] or NOT_LOCKED
-            ends.append(f"{run.folder}: ended without a report: {first[:60]}")
-    return ends
+def check_end(run: Watched) -> None:
+    """Raises NoRun, with what a run printed, if it ended without a report."""
+    if not run.ended:
+        return
+    text = read_file(run.report)
+    try:
+        run_texts.report_of(run.report, text)
+    except Refusal:
+        first = text.decode("latin-1").split("\n")[0] or NOT_LOCKED
+        raise NoRun(f"{run.folder}: ended without a report: {first[:60]}") from None
 
 
-def watch(words: argparse.Namespace) -> int:
-    """Shows the progress until all runs have ended, or once."""
-    runs = [Watched.read(folder, words) for folder in words.folders]
+def follow(runs: Sequence[Watched], words: argparse.Namespace) -> None:
+    """Shows the progress of runs until all have ended, or once. Raises NoRun if none has begun, or
+    none goes on."""
     expected = sum(sum(run.expected.values()) for run in runs)
     calls = sum(len(run.expected) for run in runs)
     if not any(run.report.is_file() for run in runs):
@@ -211,23 +204,28 @@ def watch(words: argparse.Namespace) -> int:
             left = pace.seconds_left(progress, expected)
             show(progress, said(progress, expected, calls, left))
             if progress.ended or words.once:
-                break
+                return
             grown, now = sum(run.octets() for run in runs) + progress.periods, time.monotonic()
             if grown != octets:
                 octets, since = grown, now
             elif now - since >= words.patience:
                 raise NoRun(f"no growth for {words.patience:g} s: stalled or ended")
             time.sleep(words.interval)
-    ends = text_of_ends(runs)
-    for line in ends:
-        complain("watch.py", line)
-    return 1 if ends else 0
 
 
-@tool("watch.py")
+def watch(words: argparse.Namespace) -> int:
+    """Watches the runs of the folders that have one. Returns the status of the worst folder."""
+    runs: List[Watched] = []
+    read = for_each(TOOL, words.folders, lambda folder: runs.append(Watched.read(folder, words)))
+    if not runs:
+        return read
+    followed = for_each(TOOL, [runs], lambda each: follow(each, words))
+    return max(read, followed, for_each(TOOL, runs, check_end))
+
+
+@tool(TOOL)
 def main(words: Sequence[str]) -> int:
-    """Runs the words of the command line. Returns 0 if all runs ended with a report or go on, else
-    1."""
+    """Runs the words of the command line. Returns 0 if all runs ended with a report or go on."""
     reader = Words(
         __doc__,
         option(
@@ -271,8 +269,4 @@ def main(words: Sequence[str]) -> int:
         reader.error("--orders and --report are of one folder")
     if not 0.01 <= asked.patience <= 1_000_000:
         reader.error(f"--patience {asked.patience} isn't 0.01 to 1,000,000")
-    try:
-        return watch(asked)
-    except NoRun as why:
-        complain("watch.py", str(why))
-        return 1
+    return watch(asked)
