@@ -100,6 +100,7 @@ hosts() {
 }
 
 hosts Header
+hosts Heard
 hosts Conform
 hosts Ecu
 hosts GStreamer

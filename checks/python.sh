@@ -14,7 +14,7 @@ failed=0
 # programs: the files outside of the package, in git's list, that Python runs, but for the benchmarks'
 programs() {
     echo setup.py
-    git ls-files -- tools gateway model clib checks suite | while read -r file; do
+    echo "$listed" | while read -r file; do
         case $file in
         */tests/*) ;;
         *) ! head -n 1 "$file" 2>/dev/null | grep -q '^#!.*python3' || echo "$file" ;;
@@ -44,6 +44,8 @@ if [ ! -d python/trau ]; then
     echo "note: there is no package python/trau to look at"
     exit
 fi
+# (Apart, so that this script fails where git does, as in a clone of another user.)
+listed=$(git ls-files -- tools gateway model clib checks suite)
 programs=$(programs)
 black=$(of_debian black)
 mypy=$(of_debian mypy)

@@ -1,6 +1,6 @@
 #!/bin/sh
 # The conformance suite (docs/CONFORMANCE.md): its tests; the program and the C library held to all rules; a sample of the edits of the model
-# that its cases must catch. `checks/suite.sh --long` tries all edits.
+# that its cases must catch; boxes that tools/check.py has to judge. `checks/suite.sh --long` tries all edits and all boxes.
 set -eu
 case ${1:-} in
 '' | --long) ;;
@@ -13,6 +13,14 @@ esac
 . "$(dirname "$0")/program"
 
 unit_tests "$top/suite/tests"
+if [ "${1:-}" = --long ]; then
+    if python3 "$top/suite/tests/test_check.py" --long >"$work/said" 2>&1; then
+        echo "ok check.py: all boxes"
+    else
+        fail "check.py, all boxes:"
+        cat "$work/said"
+    fi
+fi
 
 # held NAME: whether a peer keeps all rules that its operations exercise
 held() {

@@ -110,7 +110,31 @@ class InFolder(unittest.TestCase):
         return (self.folder / f"{call}.out").read_bytes()
 
 
-class Header(InFolder):
+class Programs(InFolder):
+    """Programs in C over the library."""
+
+    def printed(self, source: Path, given: bytes) -> bytes:
+        """What a program of this source makes of standard input."""
+        program = self.folder / "example"
+        library = [f"-I{LIBRARY / 'include'}", source, LIBRARY / "lib" / "libtrau_fr.a"]
+        words = [os.environ.get("CC", "cc"), "-O2", "-Wall", "-Wextra", "-o", program, *library]
+        done = run(words)
+        self.assertEqual((done.returncode, done.stderr), (0, ""))
+        return subprocess.run([program], input=given, stdout=subprocess.PIPE, check=True).stdout
+
+
+class Heard(Programs):
+    """The program of the first page."""
+
+    def test_frames_are_heard_as_by_the_receive_side(self) -> None:
+        frames = lossy_recording(100)[0]
+        frames[20] = bytes(33)  # no frame: it is lost
+        receiver = trau_fr.Receiver(1)
+        wanted = b"".join(receiver.receive(frame).tobytes() for frame in frames)
+        self.assertEqual(self.printed(EXAMPLES / "heard.c", b"".join(frames)), wanted)
+
+
+class Header(Programs):
     """The examples in the header's comment."""
 
     # For the host: a period is an octet, 0 if nothing came, and a frame.
@@ -154,21 +178,9 @@ int main(void)
             for k in range(start, len(lines))
             if not lines[k].startswith(" *     ") and lines[k].strip() != "*"
         )
-        source, program = self.folder / "example.c", self.folder / "example"
+        source = self.folder / "example.c"
         source.write_text(before + "\n".join(line[7:] for line in lines[start:end]) + after)
-        words = [
-            "-O2",
-            "-Wall",
-            "-Wextra",
-            f"-I{LIBRARY / 'include'}",
-            "-o",
-            program,
-            source,
-            LIBRARY / "lib" / "libtrau_fr.a",
-        ]
-        done = run([os.environ.get("CC", "cc"), *words])
-        self.assertEqual((done.returncode, done.stderr), (0, ""))
-        return subprocess.run([program], input=given, stdout=subprocess.PIPE, check=True).stdout
+        return self.printed(source, given)
 
     def test_encoder(self) -> None:
         samples = trau_fr.expand((VECTORS / "harsh.pcm").read_bytes()).tobytes()
