@@ -1,8 +1,8 @@
 #!/usr/bin/env python3
-"""Builds the static library over what `rt ci` has just proved: FOLDER/x86-64-v2.a and FOLDER/x86-64-v3.a.
+"""Builds a static library over what `rt ci` has just proved: FOLDER/x86-64-v2.a and FOLDER/x86-64-v3.a.
 
 Of each crate `rt ci` leaves the statements, in crates/NAME/out/rlib. `rt lib` takes no such library and proves the codec once more, so
-here the toolchain's `rattle` is called: it checks trau_c alone, against these statements, and compiles it. The check for the second kind
+here the toolchain's `rattle` is called: it checks the crate alone, against these statements, and compiles it. The check for the second kind
 of processor begins with what the first one kept, in this call.
 """
 
@@ -19,7 +19,6 @@ from trau.packing import build
 
 TOP = Path(__file__).resolve().parents[1]
 
-CRATE = "trau_c"
 KINDS = ("x86-64-v2", "x86-64-v3")
 
 
@@ -36,25 +35,37 @@ def kit() -> Path:
     return Path(os.path.realpath(found)).parents[1]
 
 
-def library(name: str) -> Path:
-    """The library of a crate's statements."""
-    found = TOP / "crates" / name / "out" / "rlib" / f"{name}.rlib"
-    if not found.is_dir():
+def library(tools: Path, name: str) -> Path:
+    """The library of the statements of a crate, of this repository or of the toolchain."""
+    if (TOP / "crates" / name).is_dir():
+        found = TOP / "crates" / name / "out" / "rlib" / f"{name}.rlib"
+    else:
+        found = tools / "rlibs" / f"{name}.rlib"
+    if not found.exists():
         fail(f"there is no {found}: rt ci leaves it")
     return found
 
 
-def words(tools: Path, work: str) -> List[str]:
+def below(crate: str) -> List[str]:
+    """The crates that a crate's line of crates.txt names, those of the toolchain too."""
+    for line in (TOP / "crates.txt").read_text().splitlines():
+        name, _, names = line.partition("#")[0].partition(":")
+        if name.split()[:1] == [crate]:
+            return names.split()
+    fail(f"crates.txt has no line of {crate}")
+
+
+def words(tools: Path, crate: str, work: str) -> List[str]:
     """The words of `rattle build` but those on the kind of processor and on what is written."""
     said = [
         "build",
         "--crate-name",
-        CRATE,
+        crate,
         "src/lib.rt",
         "--crate-type",
         "staticlib",
         "--links",
-        f"{CRATE}=",
+        f"{crate}=",
         "--jobs",
         "1",
     ]
@@ -71,10 +82,10 @@ def words(tools: Path, work: str) -> List[str]:
         "-L",
         f"dependency={tools / 'rlibs'}",
     ]
-    for name in build.crates_of(TOP)[CRATE]:
-        said += ["--extern", f"{name}={library(name)}"]
-    for name in build.needed(TOP, CRATE)[1:]:
-        said += ["-L", f"dependency={library(name).parent}"]
+    for name in below(crate):
+        said += ["--extern", f"{name}={library(tools, name)}"]
+    for name in build.needed(TOP, crate)[1:]:
+        said += ["-L", f"dependency={library(tools, name).parent}"]
     return said
 
 
@@ -82,19 +93,21 @@ def main() -> int:
     parser = argparse.ArgumentParser(
         prog="clib/archive.py", description=__doc__, formatter_class=argparse.RawTextHelpFormatter
     )
+    parser.add_argument("crate", metavar="CRATE", help="the crate of the library")
     parser.add_argument("folder", metavar="FOLDER", type=Path, help="the folder of the two files")
-    to, tools = parser.parse_args().folder.resolve(), kit()
+    given = parser.parse_args()
+    to, tools = given.folder.resolve(), kit()
     with tempfile.TemporaryDirectory() as work:
         for kind in KINDS:
             command = [
                 str(tools / "bin" / "rattle"),
-                *words(tools, work),
+                *words(tools, given.crate, work),
                 f"--cpu={kind}",
                 "-o",
                 str(to / f"{kind}.a"),
             ]
             status = subprocess.run(
-                command, cwd=TOP / "crates" / CRATE, stdin=subprocess.DEVNULL
+                command, cwd=TOP / "crates" / given.crate, stdin=subprocess.DEVNULL
             ).returncode
             if status:
                 return status

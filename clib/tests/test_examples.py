@@ -6,10 +6,12 @@ import errno
 import os
 import random
 import shutil
+import socket
 import struct
 import subprocess
 import sys
 import tempfile
+import time
 import unittest
 import wave
 from array import array
@@ -111,15 +113,20 @@ class InFolder(unittest.TestCase):
 
 
 class Programs(InFolder):
-    """Programs in C over the library."""
+    """Programs in C over a library."""
+
+    def built(self, source: Path, library: str = "trau_fr") -> Path:
+        """A program of this source."""
+        program = self.folder / "example"
+        with_library = [f"-I{LIBRARY / 'include'}", source, LIBRARY / "lib" / f"lib{library}.a"]
+        words = [os.environ.get("CC", "cc"), "-O2", "-Wall", "-Wextra", "-o", program]
+        done = run([*words, *with_library])
+        self.assertEqual((done.returncode, done.stderr), (0, ""))
+        return program
 
     def printed(self, source: Path, given: bytes) -> bytes:
         """What a program of this source makes of standard input."""
-        program = self.folder / "example"
-        library = [f"-I{LIBRARY / 'include'}", source, LIBRARY / "lib" / "libtrau_fr.a"]
-        words = [os.environ.get("CC", "cc"), "-O2", "-Wall", "-Wextra", "-o", program, *library]
-        done = run(words)
-        self.assertEqual((done.returncode, done.stderr), (0, ""))
+        program = self.built(source)
         return subprocess.run([program], input=given, stdout=subprocess.PIPE, check=True).stdout
 
 
@@ -132,6 +139,62 @@ class Heard(Programs):
         receiver = trau_fr.Receiver(1)
         wanted = b"".join(receiver.receive(frame).tobytes() for frame in frames)
         self.assertEqual(self.printed(EXAMPLES / "heard.c", b"".join(frames)), wanted)
+
+
+def loopback() -> socket.socket:
+    """A socket on a free port of this host, for one of which a packet waits a second at most."""
+    found = socket.socket(socket.AF_INET, socket.SOCK_DGRAM)
+    found.bind(("127.0.0.1", 0))
+    found.settimeout(1)
+    return found
+
+
+class Call(Programs):
+    """The program that carries a call."""
+
+    PERIODS = 100
+    # The octets of a record, and those of its lines: Up, Pcm, Down, Out.
+    SIZE = 400
+    FIELDS = (0, 40), (40, 200), (200, 240), (240, 400)
+
+    def carried(self, program: Path, peers: Sequence[socket.socket]) -> bytes:
+        """The records of a call to which both peers send packets until it ends."""
+        with loopback() as gsm, loopback() as pcm:
+            here = [each.getsockname()[1] for each in (gsm, pcm)]
+        there = [each.getsockname()[1] for each in peers]
+        words = [str(program), *(str(port) for pair in zip(here, there) for port in pair)]
+        frames = lossy_recording(100)[0]
+        line = (VECTORS / "speech-en-m3.pcm").read_bytes()
+        number = 0
+        with open(self.folder / "records", "w+b") as records:
+            with subprocess.Popen([*words, str(self.PERIODS)], stdout=records) as call:
+                while call.poll() is None:
+                    at = number % 100
+                    payloads = (3, frames[at]), (8, line[160 * at : 160 * at + 160])
+                    for peer, port, (kind, payload) in zip(peers, here, payloads):
+                        header = struct.pack(">BBHII", 0x80, kind, number, 160 * number, kind)
+                        peer.sendto(header + payload, ("127.0.0.1", port))
+                    number += 1
+                    time.sleep(0.02)
+            self.assertEqual(call.returncode, 0)
+            records.seek(0)
+            return records.read()
+
+    def test_the_records_replay(self) -> None:
+        with loopback() as station, loopback() as exchange:
+            octets = self.carried(self.built(EXAMPLES / "call.c", "trau_call"), (station, exchange))
+            first = exchange.recv(200)
+        self.assertEqual(len(octets), self.SIZE * self.PERIODS)
+        records = [octets[at : at + self.SIZE] for at in range(0, len(octets), self.SIZE)]
+        lines = [b"".join(record[a:b] for record in records) for a, b in self.FIELDS]
+        (self.folder / "1.up").write_bytes(lines[0])
+        (self.folder / "1.pcm").write_bytes(lines[1])
+        orders = b"0 open 1\n0 dtx 1 on\n"
+        words = [TOP / "model" / "trau", "run"]
+        subprocess.run(words, input=orders, stdout=subprocess.DEVNULL, cwd=self.folder, check=True)
+        self.assertEqual((self.folder / "1.out").read_bytes(), lines[3])
+        self.assertEqual((self.folder / "1.down").read_bytes()[40:], lines[2][:-40])
+        self.assertEqual(first[12:], lines[3][:160])
 
 
 class Header(Programs):

@@ -1,1 +1,2 @@
 mod Step
+mod Lines

@@ -32,7 +32,8 @@ use Rattle.rx_handler.specs.Past.{effective_of}
 use Rattle.fr_sides.specs.Receiving as sides
 use Rattle.call_leg.specs.Uplink.{heard_as, handed_fields}
 use Rattle.call_leg.specs.Periods.{effective_now as call_effective_now, sighting_after, heard_of}
-use Rattle.call_coders.specs.Replay.{who_is, period_of, bridged_period, CanBeBridged, CallStands, Replays, HeardPeriod, SpokenPeriod, HandedPeriod}
+use Rattle.call_coders.specs.declared.coders.DownKind.{DownKind}
+use Rattle.call_coders.specs.Replay.{who_is, period_of, bridged_period, CanBeBridged, CallStands, Replays, IsCarried, number_of, kind_sent, HeardPeriod, SpokenPeriod, HandedPeriod}
 
 -- the laws of call_sides that this needs
 pub record Laws : Type 0 where
@@ -261,3 +262,29 @@ bridged_with laws number law past before after now sender next up same pcm out o
     subst (λ (m : ReceiverMemory). Replays (who_is number law) (bridged_period same pcm level dtx starts item ∷ past) m next out down) (sym receiver)
     (subst (λ (u : List ℕ). Replays (who_is number law) (bridged_period u pcm level dtx starts item ∷ past) after next out down) (sym ups)
     (subst (λ (i : List ℕ). Replays (who_is number law) (bridged_period up pcm level dtx starts i ∷ past) after next out down) (sym items) whole))
+
+-- what Down carries, if it is what the transmit side sends
+pub carried_speech : ((s : Sent) (frame octets : List ℕ) → AreOctets33 frame → CarriesFrame frame s.fields →
+    WrittenDownlink frame (kind_of_sp s.sp) octets → bits_of octets ≡ down_bits (speech s)) →
+    (s : Sent) (frame down : List ℕ) (kind : DownKind) (sp : Bool) → AreOctets33 frame → CarriesFrame frame s.fields → sp ≡ s.sp →
+    number_of kind ≡ kind_of_sp sp → kind ≡ kind_sent sp → WrittenDownlink frame (number_of kind) down → IsCarried frame kind down
+carried_speech sent s frame down kind sp octets carries same number kind_is written = record {
+  written = written;
+  contents = speech s;
+  bits = sent s frame down octets carries (subst (λ (k : ℕ). WrittenDownlink frame k down) (number ∙ ap kind_of_sp same) written);
+  kind_is = kind_is ∙ ap kind_sent same;
+}
+
+-- the same if it is what the partner hands over
+pub carried_item : ((f : Fields) (frame octets : List ℕ) → AreOctets33 frame → CarriesFrame frame f →
+    WrittenDownlink frame 0 octets → bits_of octets ≡ down_bits (Speech (bits260 f) true)) →
+    (f : Fields) (frame same down : List ℕ) (kind : DownKind) → AreOctets33 frame → CarriesFrame frame f → same ≡ frame → kind ≡ kind_sent true →
+    WrittenDownlink frame 0 down → IsCarried same kind down
+carried_item handed f frame same down kind octets carries frame_is kind_is written =
+    subst (λ (xs : List ℕ). IsCarried xs kind down) (sym frame_is)
+    (subst (λ (k : DownKind). IsCarried frame k down) (sym kind_is) (record {
+      written = written;
+      contents = Speech (bits260 f) true;
+      bits = handed f frame down octets carries written;
+      kind_is = refl;
+    }))

@@ -5,6 +5,8 @@ use Rattle.trau_alaw.specs.Period.{compressed, expanded}
 use Rattle.trau_bits.specs.Bits.{bits_of}
 use Rattle.trau_params.specs.Bits260.{bits260}
 use Rattle.trau_orders.specs.declared.order.DtxMode.TheVariants.{On, Off}
+use Rattle.trau_frame.specs.declared.frames.DownFrame.{DownFrame}
+use Rattle.trau_frame.specs.declared.frames.DownFrame.TheVariants as down
 use Rattle.trau_frame.specs.DownFrame.{down_bits}
 use Rattle.rx_handler.specs.Past.{effective_of}
 use Rattle.down_framer.specs.Bridges.{in_bridge, LeavePeriodsBetween}
@@ -23,6 +25,8 @@ use Rattle.call_sides.specs.Received.{BridgesHavePeriods}
 use Rattle.call_sides.specs.Sent.{sender_periods}
 use Rattle.call_sides.specs.Recorded.{AreRecordsOf}
 use Rattle.call_sides.specs.Written.{AreOctets33, kind_of_sp}
+use Rattle.call_coders.specs.declared.coders.DownKind.{DownKind}
+use Rattle.call_coders.specs.declared.coders.DownKind.TheVariants.{Speech, Descriptor, Idle}
 
 abbrev pub who_is : ℕ → Law → Who
 who_is number law = record { number = number; law = law }
@@ -49,8 +53,8 @@ bridged_period up pcm level dtx starts item = record {
   handed = Some item;
 }
 
--- What a call of `trau run` hands to its partner in a period with this frame on Up: the 260 bits of its effective frame, by the call's number. They
--- depend on nothing else of the period.
+-- What a call of `trau run` hands to its partner in a period with this frame on Up: the 260 bits of its effective
+-- frame, by the call's number. They depend on nothing else of the period.
 abbrev pub item_of : ℕ → List ℕ → List CallPeriod → List ℕ
 item_of number up past = bits260 (handed_fields (effective_of number (heard_as (sighting_after past up) ∷ heard_of past)))
 
@@ -68,12 +72,36 @@ pub record CallStands (who : Who) (ts : List CallPeriod) (receiver : ReceiverMem
   pub bridges : LeavePeriodsBetween (down_periods ts)
   pub begun : BridgesHavePeriods ts
 
--- **After these periods the coders stand for them, and the newest octets of Out, and the newest frame for Down, are those that a call of `trau run`
--- makes of their Up and Pcm.**
+-- **After these periods the coders stand for them, and the newest octets of Out, and the newest frame for Down, are
+-- those that a call of `trau run` makes of their Up and Pcm.**
 pub record Replays (who : Who) (ts : List CallPeriod) (receiver : ReceiverMemory) (sender : SenderMemory) (out down : List ℕ) : Type 0 where
   pub stands : CallStands who ts receiver sender
   pub out_is : out ≡ out_of who ts
   pub down_is : bits_of down ≡ down_bits (frame_now who (frames_of ts))
+
+-- ---- what Down carries
+
+-- its number for `fr_sides`
+abbrev pub number_of : DownKind → ℕ
+number_of Speech = 0
+number_of Descriptor = 1
+number_of Idle = 3
+
+-- that of a frame with this SP
+abbrev pub kind_sent : Bool → DownKind
+kind_sent true = Speech
+kind_sent false = Descriptor
+
+abbrev pub kind_in : DownFrame → DownKind
+kind_in down.Idle = Idle
+kind_in (down.Speech d sp) = kind_sent sp
+
+-- **Down is the downlink frame for these 33 octets and this kind.**
+pub record IsCarried (frame : List ℕ) (kind : DownKind) (down : List ℕ) : Type 0 where
+  pub written : WrittenDownlink frame (number_of kind) down
+  pub contents : DownFrame
+  pub bits : bits_of down ≡ down_bits contents
+  pub kind_is : kind ≡ kind_in contents
 
 -- the octets `out` are what the receive side gives for a period, by the law
 pub record HeardPeriod (law : Law) (frame : List ℕ) (kind : ℕ) (taf : Bool) (before after : ReceiverMemory) (out : List ℕ) (sounds : Bool) : Type 0 where
@@ -92,7 +120,8 @@ pub record SpokenPeriod (law : Law) (pcm : List ℕ) (level : ℤ) (dtx : Bool) 
       × CarriesFrame frame (sent_now (sender_period (expanded law pcm) level dtx) past).fields
       × (sp ≡ (sent_now (sender_period (expanded law pcm) level dtx) past).sp)
 
--- the octets `up` are the uplink frame for what a period in a bridge brought, and `next` the 33 octets that the receive side hands over in it
+-- the octets `up` are the uplink frame for what a period in a bridge brought, and `next` the 33 octets that the receive
+-- side hands over in it
 pub record HandedPeriod (before after : ReceiverMemory) (up next : List ℕ) : Type 0 where
   pub frame : List ℕ
   pub kind : ℕ

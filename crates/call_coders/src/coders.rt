@@ -7,17 +7,14 @@ ghost use Rattle.fr_sides.specs.Memory.{receiver_memory, sender_memory};
 ghost use Rattle.fr_sides.specs.Receiving.{no_samples};
 ghost use Rattle.fr_sides.specs.Sending.{SenderStands};
 ghost use Rattle.fr_sides.specs.Downlink.{WrittenDownlink};
+ghost use Rattle.fr_sides.specs.Uplink.{WrittenUplink};
 ghost use Rattle.call_leg.specs.Periods.{CallPeriod};
 ghost use Rattle.call_sides.specs.Written.{AreOctets33, kind_of_sp};
-ghost use Rattle.call_coders.specs.Replay.{HeardPeriod, SpokenPeriod, HandedPeriod, CallStands, Replays, CanBeBridged, who_is, period_of, bridged_period, item_of};
+ghost use Rattle.call_coders.specs.Replay.{HeardPeriod, SpokenPeriod, HandedPeriod, CallStands, Replays, CanBeBridged, IsCarried, number_of, kind_sent, who_is, period_of, bridged_period, item_of};
 
-use call_sides::laws::{
-    the_receive_side_gives_the_out_line, the_transmit_side_gives_the_down_line,
-    whole_frames_are_heard, written_frames_are_those_of_the_line,
-};
 use fr_sides::{
-    IDLE, Receiver, SID, SPEECH, Sender, hand_octets, kind_of_octets, receive_octets, send_octets,
-    write_downlink, write_uplink,
+    IDLE, Receiver, SID, SPEECH, Sender, hand_octets, receive_octets, send_octets, write_downlink,
+    write_uplink,
 };
 use trau_alaw::{Law, compress_all, expand_all};
 
@@ -32,15 +29,13 @@ pub struct Brought {
     pub taf: bool,
 }
 
-/// What a period of a call in a bridge has from both sides.
+/// What a period of a call has, beside the octets from the exchange, which are in its record.
 #[derive(Clone, Copy)]
 pub struct Input {
     /// The law of the call's octets from and to the exchange.
     pub law: Law,
     /// From the base station.
     pub brought: Brought,
-    /// From the exchange.
-    pub pcm: [u8; 160],
 }
 
 /// What is recorded of a period.
@@ -57,34 +52,24 @@ pub struct Record {
     pub out: [u8; 160],
 }
 
-/// A period as it was processed.
+/// What Down carries in a period.
 #[derive(Clone, Copy)]
-pub struct Processed {
-    /// What is recorded of it.
-    pub record: Record,
-    /// The frame that Down carries.
-    pub frame: [u8; 33],
-    /// Its kind: speech, a silence descriptor, or idle (`fr_sides`).
-    pub kind: u32,
+pub enum DownKind {
+    /// Speech (SP 1).
+    Speech,
+    /// A silence descriptor (SP 0).
+    Descriptor,
+    /// An idle frame.
+    Idle,
 }
 
-/// What a call in a bridge heard in a period.
+/// What is said to the base station in a period.
 #[derive(Clone, Copy)]
-pub struct Handed {
-    /// The frame on Up.
-    pub up: [u8; 40],
-    /// The frame that it hands to its partner.
+pub struct Spoken {
+    /// The frame that Down carries; any, if it is idle.
     pub frame: [u8; 33],
-}
-
-// What is spoken in a period.
-struct Said {
-    // The frame for Down.
-    down: [u8; 40],
-    // What it carries.
-    frame: [u8; 33],
-    // Its kind.
-    kind: u32,
+    /// What it is.
+    pub kind: DownKind,
 }
 
 /// The two coders of a call.
@@ -97,22 +82,43 @@ pub struct Coders {
     pub sender: Sender,
 }
 
+// Takes an array and does nothing.
+fn pass(_octets: &[u8; 33]) {}
+
 // The entries of the array are octets, for proofs. This is known only after the array is passed to a function.
 fn are_octets(octets: &[u8; 33])
     ensures { AreOctets33 octets.now }
 {
-    let _kind = kind_of_octets(octets);
+    pass(octets);
 }
 
-// The kind of a frame that is sent.
-fn kind_of(speech: bool) -> u32
-    ensures { result ≡ kind_of_sp speech }
-{
-    if speech { SPEECH } else { SID }
+impl DownKind {
+    // Its number for `fr_sides`.
+    fn number(self) -> u32
+        ensures { result ≡ number_of self }
+    {
+        match self {
+            DownKind::Speech => SPEECH,
+            DownKind::Descriptor => SID,
+            DownKind::Idle => IDLE,
+        }
+    }
+
+    // That of a frame that is sent.
+    fn of(speech: bool) -> DownKind
+        ensures number { number_of result ≡ kind_of_sp speech }
+        ensures kind { result ≡ kind_sent speech }
+    {
+        if speech {
+            DownKind::Speech
+        } else {
+            DownKind::Descriptor
+        }
+    }
 }
 
 // Hears a period. Returns false if the call is quiet.
-fn heard(receiver: &mut Receiver, law: Law, brought: &Brought, out: &mut [u8; 160]) -> bool
+fn hear(receiver: &mut Receiver, law: Law, brought: &Brought, out: &mut [u8; 160]) -> bool
     ensures { HeardPeriod law brought.now.frame brought.now.kind brought.now.taf (receiver_memory receiver.old)
         (receiver_memory receiver.new) out.new result }
 {
@@ -128,17 +134,39 @@ fn heard(receiver: &mut Receiver, law: Law, brought: &Brought, out: &mut [u8; 16
     sounds
 }
 
-// Speaks a period.
-fn spoken(sender: &mut Sender, law: Law, pcm: &[u8; 160], level: i16, dtx: bool) -> Said
-    ensures { SpokenPeriod law pcm.now level dtx (sender_memory sender.old) (sender_memory sender.new) result.frame result.kind result.down }
+// Speaks a period: what the exchange said goes to Down.
+fn speak(
+    sender: &mut Sender,
+    law: Law,
+    pcm: &[u8; 160],
+    level: i16,
+    dtx: bool,
+    down: &mut [u8; 40],
+) -> Spoken
+    ensures period { SpokenPeriod law pcm.now level dtx (sender_memory sender.old) (sender_memory sender.new) result.frame
+        (number_of result.kind) down.new }
+    ensures carried { IsCarried result.frame result.kind down.new }
 {
+    call_sides::laws::written_frames_are_those_of_the_line();
     let samples = expand_all(law, pcm);
     let mut frame = [0; 33];
     let speech = send_octets(sender, &samples, level, dtx, &mut frame);
     are_octets(&frame);
-    let kind = kind_of(speech);
-    let down = write_downlink(&frame, kind);
-    Said { down, frame, kind }
+    let kind = DownKind::of(speech);
+    *down = write_downlink(&frame, kind.number());
+    Spoken { frame, kind }
+}
+
+// Nothing is spoken: Down is idle.
+fn keep_quiet(down: &mut [u8; 40]) -> Spoken
+    ensures kind { result.kind ≡ DownKind.Idle }
+    ensures carried { IsCarried result.frame result.kind down.new }
+{
+    call_sides::laws::written_frames_are_those_of_the_line();
+    let frame = [0; 33];
+    let kind = DownKind::Idle;
+    *down = write_downlink(&frame, kind.number());
+    Spoken { frame, kind }
 }
 
 impl Coders {
@@ -152,61 +180,52 @@ impl Coders {
         }
     }
 
-    /// Processes a period of a call that is in no bridge: hears what the base station brought, and says what the exchange
-    /// said.
-    pub fn period(
-        &mut self,
-        law: Law,
-        brought: &Brought,
-        pcm: &[u8; 160],
-        level: i16,
-        dtx: bool,
-    ) -> Processed
+    /// Processes a period of a call that is in no bridge: hears what the base station brought, and says what the
+    /// exchange said, which is in the record already.
+    pub fn period(&mut self, input: &Input, level: i16, dtx: bool, recorded: &mut Record) -> Spoken
         // If the state stands for the recorded periods so far, it stands for them with this one after it. The octets of
         // Out, and the frame for Down, are those that a call of `trau run` makes of the recorded Up and Pcm.
         ensures replay { (number : ℕ) (past : List CallPeriod) →
-            CallStands (who_is number law) past (receiver_memory self.old.receiver) (sender_memory self.old.sender) →
-            Replays (who_is number law) (period_of result.record.up result.record.pcm level dtx ∷ past) (receiver_memory self.new.receiver)
-            (sender_memory self.new.sender) result.record.out result.record.down }
-        ensures pcm { result.record.pcm ≡ pcm.now }
+            CallStands (who_is number input.now.law) past (receiver_memory self.old.receiver) (sender_memory self.old.sender) →
+            Replays (who_is number input.now.law) (period_of recorded.new.up recorded.new.pcm level dtx ∷ past) (receiver_memory self.new.receiver)
+            (sender_memory self.new.sender) recorded.new.out recorded.new.down }
 
-        // What Down carries.
-        ensures down { WrittenDownlink result.frame result.kind result.record.down }
+        // Up says what the base station brought, and Pcm is what the exchange said.
+        ensures up { WrittenUplink input.now.brought.frame input.now.brought.kind input.now.brought.taf recorded.new.up }
+        ensures pcm { recorded.new.pcm ≡ recorded.old.pcm }
+        ensures down { IsCarried result.frame result.kind recorded.new.down }
     {
-        the_receive_side_gives_the_out_line();
-        the_transmit_side_gives_the_down_line();
-        whole_frames_are_heard();
-        written_frames_are_those_of_the_line();
+        call_sides::laws::the_receive_side_gives_the_out_line();
+        call_sides::laws::the_transmit_side_gives_the_down_line();
+        call_sides::laws::whole_frames_are_heard();
+        call_sides::laws::written_frames_are_those_of_the_line();
+        let law = input.law;
+        let brought = &input.brought;
         are_octets(&brought.frame);
-        let up = write_uplink(&brought.frame, brought.kind, brought.taf);
-        let mut out = [0; 160];
-        let pcm = *pcm;
-        if heard(&mut self.receiver, law, brought, &mut out) {
-            let Said { down, frame, kind } = spoken(&mut self.sender, law, &pcm, level, dtx);
-            let record = Record { up, pcm, down, out };
-            Processed {
-                record,
-                frame,
-                kind,
-            }
+        recorded.up = write_uplink(&brought.frame, brought.kind, brought.taf);
+        if hear(&mut self.receiver, law, brought, &mut recorded.out) {
+            speak(
+                &mut self.sender,
+                law,
+                &recorded.pcm,
+                level,
+                dtx,
+                &mut recorded.down,
+            )
         } else {
             self.sender = Sender::home();
-            let down = write_downlink(&[0; 33], IDLE);
-            Processed {
-                record: Record { up, pcm, down, out },
-                frame: [0; 33],
-                kind: IDLE,
-            }
+            keep_quiet(&mut recorded.down)
         }
     }
 
-    /// Hears a period of a call in a bridge.
-    pub fn hand(&mut self, brought: &Brought) -> Handed
-        ensures handed { HandedPeriod (receiver_memory self.old.receiver) (receiver_memory self.new.receiver) result.up result.frame }
+    // Hears a period of a call in a bridge: returns the frame that it hands to its partner.
+    fn hand(&mut self, brought: &Brought, up: &mut [u8; 40]) -> [u8; 33]
+        ensures handed { HandedPeriod (receiver_memory self.old.receiver) (receiver_memory self.new.receiver) up.new result }
+        ensures up { WrittenUplink brought.now.frame brought.now.kind brought.now.taf up.new }
         ensures sender { self.new.sender ≡ self.old.sender }
     {
         are_octets(&brought.frame);
-        let up = write_uplink(&brought.frame, brought.kind, brought.taf);
+        *up = write_uplink(&brought.frame, brought.kind, brought.taf);
         let mut frame = [0; 33];
         let _sounds = hand_octets(
             &mut self.receiver,
@@ -215,70 +234,65 @@ impl Coders {
             brought.taf,
             &mut frame,
         );
-        Handed { up, frame }
+        frame
     }
 
     // Says in a bridge what the partner handed over, after this was heard.
-    fn carry(&mut self, law: Law, up: &[u8; 40], pcm: &[u8; 160], frame: &[u8; 33]) -> Processed
+    fn carry(&mut self, law: Law, frame: [u8; 33], recorded: &mut Record) -> Spoken
         ensures receiver { self.new.receiver ≡ self.old.receiver }
         ensures sender { SenderStands [] (sender_memory self.new.sender) }
-        ensures up { result.record.up ≡ up.now }
-        ensures pcm { result.record.pcm ≡ pcm.now }
-        ensures out { result.record.out ≡ compressed law no_samples }
-        ensures frame { result.frame ≡ frame.now }
-        ensures kind { result.kind ≡ 0 }
-        ensures down { WrittenDownlink frame.now 0 result.record.down }
-        ensures octets { AreOctets33 frame.now }
+        ensures others { recorded.new ≡ record recorded.old { down = recorded.new.down; out = recorded.new.out } }
+        ensures out { recorded.new.out ≡ compressed law no_samples }
+        ensures frame { result.frame ≡ frame }
+        ensures kind { result.kind ≡ DownKind.Speech }
+        ensures down { WrittenDownlink frame 0 recorded.new.down }
+        ensures octets { AreOctets33 frame }
     {
-        are_octets(frame);
+        are_octets(&frame);
         self.sender = Sender::home();
-        let mut out = [0; 160];
-        compress_all(law, &[0; 160], &mut out);
-        let down = write_downlink(frame, SPEECH);
-        Processed {
-            record: Record {
-                up: *up,
-                pcm: *pcm,
-                down,
-                out,
-            },
-            frame: *frame,
-            kind: SPEECH,
-        }
+        compress_all(law, &[0; 160], &mut recorded.out);
+        let kind = DownKind::Speech;
+        recorded.down = write_downlink(&frame, kind.number());
+        Spoken { frame, kind }
     }
 }
 
-/// Processes a period of the two calls of a bridge: both hear before one speaks.
+/// Processes a period of the two calls of a bridge: both hear before one speaks. The octets from the exchange are in
+/// the records already.
 pub fn bridged(
     one: &mut Coders,
     other: &mut Coders,
     to_one: &Input,
     to_other: &Input,
-) -> (Processed, Processed)
+    of_one: &mut Record,
+    of_other: &mut Record,
+) -> (Spoken, Spoken)
     // Each call replays its recorded lines, if it is handed what the other one hands over.
     ensures replay { (number other_number : ℕ) (past other_past : List CallPeriod) (level other_level : ℤ) (dtx other_dtx starts other_starts : Bool) →
         CallStands (who_is number to_one.now.law) past (receiver_memory one.old.receiver) (sender_memory one.old.sender) →
         CallStands (who_is other_number to_other.now.law) other_past (receiver_memory other.old.receiver) (sender_memory other.old.sender) →
         CanBeBridged starts past → CanBeBridged other_starts other_past →
         Replays (who_is number to_one.now.law)
-        (bridged_period result.0.record.up result.0.record.pcm level dtx starts (item_of other_number result.1.record.up other_past) ∷ past)
-        (receiver_memory one.new.receiver) (sender_memory one.new.sender) result.0.record.out result.0.record.down
+        (bridged_period of_one.new.up of_one.new.pcm level dtx starts (item_of other_number of_other.new.up other_past) ∷ past)
+        (receiver_memory one.new.receiver) (sender_memory one.new.sender) of_one.new.out of_one.new.down
         × Replays (who_is other_number to_other.now.law)
-        (bridged_period result.1.record.up result.1.record.pcm other_level other_dtx other_starts (item_of number result.0.record.up past) ∷ other_past)
-        (receiver_memory other.new.receiver) (sender_memory other.new.sender) result.1.record.out result.1.record.down }
-    ensures pcms { (result.0.record.pcm ≡ to_one.now.pcm) × (result.1.record.pcm ≡ to_other.now.pcm) }
+        (bridged_period of_other.new.up of_other.new.pcm other_level other_dtx other_starts (item_of number of_one.new.up past) ∷ other_past)
+        (receiver_memory other.new.receiver) (sender_memory other.new.sender) of_other.new.out of_other.new.down }
+    ensures ups { WrittenUplink to_one.now.brought.frame to_one.now.brought.kind to_one.now.brought.taf of_one.new.up
+        × WrittenUplink to_other.now.brought.frame to_other.now.brought.kind to_other.now.brought.taf of_other.new.up }
+    ensures pcms { (of_one.new.pcm ≡ of_one.old.pcm) × (of_other.new.pcm ≡ of_other.old.pcm) }
 
     // What Down carries, which is speech.
-    ensures down { WrittenDownlink result.0.frame result.0.kind result.0.record.down × WrittenDownlink result.1.frame result.1.kind result.1.record.down }
-    ensures speech { (result.0.kind ≡ 0) × (result.1.kind ≡ 0) }
+    ensures down { IsCarried result.0.frame result.0.kind of_one.new.down × IsCarried result.1.frame result.1.kind of_other.new.down }
+    ensures speech { (result.0.kind ≡ DownKind.Speech) × (result.1.kind ≡ DownKind.Speech) }
 {
-    the_receive_side_gives_the_out_line();
-    the_transmit_side_gives_the_down_line();
-    whole_frames_are_heard();
-    written_frames_are_those_of_the_line();
-    let by_one = one.hand(&to_one.brought);
-    let by_other = other.hand(&to_other.brought);
-    let first = one.carry(to_one.law, &by_one.up, &to_one.pcm, &by_other.frame);
-    let second = other.carry(to_other.law, &by_other.up, &to_other.pcm, &by_one.frame);
+    call_sides::laws::the_receive_side_gives_the_out_line();
+    call_sides::laws::the_transmit_side_gives_the_down_line();
+    call_sides::laws::whole_frames_are_heard();
+    call_sides::laws::written_frames_are_those_of_the_line();
+    let by_one = one.hand(&to_one.brought, &mut of_one.up);
+    let by_other = other.hand(&to_other.brought, &mut of_other.up);
+    let first = one.carry(to_one.law, by_other, of_one);
+    let second = other.carry(to_other.law, by_one, of_other);
     (first, second)
 }

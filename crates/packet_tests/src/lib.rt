@@ -1,6 +1,9 @@
 //! Tests of the crates of live packets (`rtp_packet`, `rtp_buffer`, `rtp_stream`, `rtp_call`).
 //!
-//! They are a crate of their own, since a crate with tests is proved a second time with them. They call public functions only.
+//! Layer: Tests.
+//!
+//! They are a crate of their own, since a crate with tests is proved a second time with them. They call public
+//! functions only.
 #![tactic(auto)]
 
 #[cfg(test)]

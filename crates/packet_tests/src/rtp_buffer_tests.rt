@@ -152,7 +152,7 @@ fn played(path: Path, depth: u32, ticks: u32) -> (u32, u32, u32) {
 // As gateway/jitter_buffer.py plays them, if no period is soft speech.
 #[test]
 fn paths(rt: HostRuntime) {
-    assert_row(&rt, 0, played(Path::Longer, 1, 4000) == (501271, 10, 1));
+    assert_row(&rt, 0, played(Path::Longer, 1, 4000) == (501207, 10, 1));
     assert_row(&rt, 1, played(Path::Reorders, 3, 600) == (67350, 9, 6));
     assert_row(&rt, 2, played(Path::Reorders, 3, 3000) == (375318, 10, 3));
     assert_row(

@@ -1,12 +1,12 @@
 //! What a call records and sends, as the gateway in Python does.
 
-ghost use Rattle.std.specs.Prelude.{◌≤◌};
+ghost use Rattle.std.specs.Prelude.{◌≤◌, IfSome};
 ghost use Rattle.rtp_session.specs.Outgoing.{IsMedia};
 ghost use Rattle.rtp_call.specs.Call.{IsReady};
 
 use crate::rows::assert_row;
 use call_coders::Record;
-use rtp_call::Call;
+use rtp_call::{Call, Datagrams, Settings};
 use rtp_session::Outgoing;
 use trau_alaw::Law;
 
@@ -86,12 +86,24 @@ fn turn(call: &mut Call, sum: u32, tick: u32) -> u32
     requires { IsReady call.old }
     ensures { IsReady call.new }
 {
-    let mut gsm = [0; 45];
-    let mut pcm = [0; 172];
-    let (record, is_sent) = call.turn(tick, 256, true, &mut gsm, &mut pcm);
-    let sum = with_record(sum, &record);
-    let sum = if is_sent { with_octets(sum, &gsm) } else { sum };
-    with_octets(sum, &pcm)
+    let mut recorded = Record {
+        up: [0; 40],
+        pcm: [0; 160],
+        down: [0; 40],
+        out: [0; 160],
+    };
+    let mut datagrams = Datagrams {
+        gsm: [0; 45],
+        pcm: [0; 172],
+    };
+    let is_sent = call.turn(tick, 256, true, &mut recorded, &mut datagrams);
+    let sum = with_record(sum, &recorded);
+    let sum = if is_sent {
+        with_octets(sum, &datagrams.gsm)
+    } else {
+        sum
+    };
+    with_octets(sum, &datagrams.pcm)
 }
 
 // The sum of 60 periods.
@@ -111,14 +123,47 @@ fn periods(call: &mut Call, station: &mut Outgoing, exchange: &mut Outgoing) -> 
     sum
 }
 
+// The call of the test, in which no payload type is RTCP's.
+fn call() -> Option<Call>
+    ensures { IfSome result (λ call. IsReady call) }
+{
+    let random = [
+        1, 2, 3, 4, 5, 6, 7, 8, 9, 10, 11, 12, 13, 14, 15, 16, 17, 18, 19, 20,
+    ];
+    let settings = Settings {
+        number: 5,
+        law: Law::Mu,
+        depth: 2,
+        prime: true,
+        gsm: 3,
+        pcm: 0,
+    };
+    Call::home(&settings, &random)
+}
+
 // Lost frames, comfort noise over a whole period of descriptors, a pause, lost octets.
 #[test]
 fn a_call(rt: HostRuntime) {
-    let to_gsm = [1, 2, 3, 4, 5, 6, 7, 8, 9, 10];
-    let to_pcm = [11, 12, 13, 14, 15, 16, 17, 18, 19, 20];
-    let mut call = Call::home(5, Law::Mu, 2, true, &to_gsm, &to_pcm);
     let mut station = Outgoing::home(3, &[0, 1, 0, 0, 0, 0, 0, 0, 0, 9]);
     let mut exchange = Outgoing::home(0, &[0, 7, 0, 0, 0, 40, 0, 0, 0, 8]);
-    let sum = periods(&mut call, &mut station, &mut exchange);
-    assert_row(&rt, 0, sum == 301900039);
+    if let Some(mut call) = call() {
+        let sum = periods(&mut call, &mut station, &mut exchange);
+        assert_row(&rt, 0, sum == 301900039);
+    } else {
+        assert_row(&rt, 1, false);
+    }
+}
+
+// A payload type that RTCP on the same port seems to have.
+#[test]
+fn no_media(rt: HostRuntime) {
+    let settings = Settings {
+        number: 5,
+        law: Law::A,
+        depth: 2,
+        prime: false,
+        gsm: 72,
+        pcm: 8,
+    };
+    assert_row(&rt, 0, Call::home(&settings, &[0; 20]).is_none());
 }

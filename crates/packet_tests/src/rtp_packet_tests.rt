@@ -3,8 +3,8 @@
 use crate::rows::assert_row;
 use rtp_packet::{Header, Reception, Refusal, parse};
 
-// The first twelve octets of a packet in each of `ffmpeg.pcap`, `gstreamer.pcap`, `osmo.pcap` and `pcmu.pcap` (tools/tests/data, whose
-// senders tools/README.md names), and the header's fields, which were read from these octets.
+// The first twelve octets of a packet in each of `ffmpeg.pcap`, `gstreamer.pcap`, `osmo.pcap` and `pcmu.pcap`
+// (tools/tests/data, whose senders tools/README.md names), and the header's fields, which were read from these octets.
 static SENT: [([u8; 12], bool, u8, u16, u32, u32); 4] = [
     (
         [
@@ -174,8 +174,8 @@ fn what_is_no_packet(rt: HostRuntime) {
     );
 }
 
-// Counts packets: each by its number, its time stamp and the tick at which it came. The result: how many were counted, how many
-// are missing, and sixteen times the jitter.
+// Counts packets: each by its number, its time stamp and the tick at which it came. The result: how many were counted,
+// how many are missing, and sixteen times the jitter.
 fn counted(packets: &[(u16, u32, u32)]) -> (u32, u32, u32) {
     let first = match packets.first() {
         None => 0,
@@ -190,8 +190,9 @@ fn counted(packets: &[(u16, u32, u32)]) -> (u32, u32, u32) {
     (reception.received, reception.missing(), reception.jitter)
 }
 
-// What the gateway in Python counts: over the greatest number, one doubled and one swapped; a sender that begins anew, and a packet
-// that doesn't belong; a stop of a second, which is no jitter; the greatest gaps ahead and behind, and one more.
+// What the gateway in Python counts: over the greatest number, one doubled and one swapped; a sender that begins anew,
+// and a packet that doesn't belong; a stop of a second, which is no jitter; the greatest gaps ahead and behind, and one
+// more.
 #[test]
 fn what_came_of_a_source(rt: HostRuntime) {
     let swapped = [

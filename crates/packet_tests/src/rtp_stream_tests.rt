@@ -9,7 +9,8 @@ use rtp_buffer::{Buffer, Octet, Pace, Slot, Store};
 use rtp_packet::{Header, Reception};
 use rtp_stream::{Arrival, Sources, Stream, Track, lay};
 
-// A packet: its number, its time stamp, its source, its samples, the tick at which it is read, and by how many periods that is late.
+// A packet: its number, its time stamp, its source, its samples, the tick at which it is read, and by how many periods
+// that is late.
 type Row = (u16, u32, u32, u32, u32, u32);
 
 // A stream before its first packet, which waits three ticks.
@@ -140,14 +141,32 @@ fn octets(rt: HostRuntime) {
     assert_rows(&rt, rows_held(&mut stream, &OCTETS), OCTETS.len());
 }
 
-// Two packets before 20 periods are given up. After that their packets aren't late, but of time that was given up, until one comes
-// that isn't late.
+// Of three sources that begin at once while the first one is still, one is heard.
+static SOURCES: [(Row, Wanted); 7] = [
+    ((1, 160, 5, 160, 0, 0), Wanted::NewSource),
+    ((1, 160, 6, 160, 10, 0), Wanted::OnProbation),
+    ((1, 160, 7, 160, 10, 0), Wanted::OnProbation),
+    ((1, 160, 8, 160, 14, 0), Wanted::OnProbation),
+    ((2, 320, 7, 160, 14, 0), Wanted::OnProbation),
+    ((2, 320, 6, 160, 14, 0), Wanted::NewSource),
+    ((3, 480, 7, 160, 14, 0), Wanted::OnProbation),
+];
+
+#[test]
+fn sources(rt: HostRuntime) {
+    let mut stream: Stream<33> = stream(80);
+    assert_rows(&rt, rows_held(&mut stream, &SOURCES), SOURCES.len());
+}
+
+// Two packets before 20 periods are given up. After that their packets aren't late, but of time that was given up,
+// until one comes that is neither late nor far away.
 static BEFORE: [(Row, Wanted); 2] = [
     ((1, 0, 5, 160, 0, 0), Wanted::NewSource),
     ((2, 160, 5, 160, 1, 0), Wanted::At(1, 80)),
 ];
 
-static AFTER: [(Row, Wanted); 3] = [
+static AFTER: [(Row, Wanted); 4] = [
+    ((900, 960000, 5, 160, 2, 0), Wanted::Far),
     ((3, 320, 5, 160, 2, 0), Wanted::GivenUp),
     ((23, 3520, 5, 160, 2, 0), Wanted::At(22, 80)),
     ((4, 480, 5, 160, 2, 0), Wanted::At(3, 80)),

@@ -1,3 +1,4 @@
+mod Known
 mod Slots
 mod Histories
 mod Rows

@@ -46,7 +46,8 @@ abbrev pub first_came : List Deed → ℕ → ℕ → Option ℕ
 first_came [] period k = None
 first_came (deed ∷ deeds) period k = or_else (first_came deeds period k) (came_by deed period k)
 
--- nothing was done with the period but to put octets of it, and no octets of another period in its slot, as is so for periods that are within 128
+-- nothing was done with the period but to put octets of it, and no octets of another period in its slot, as is so for
+-- periods that are within 128
 abbrev pub leaves : Deed → ℕ → Bool
 leaves (Put other part octets) period = (other == period) || not (slot_of other == slot_of period)
 leaves (Take other) period = not (other == period)

@@ -1,4 +1,5 @@
--- Which period is played when: adaptive playout in whole periods (this project's profile; RFC 3550 leaves playout to the receiver).
+-- Which period is played when: adaptive playout in whole periods (this project's profile; RFC 3550 leaves playout to
+-- the receiver).
 use Rattle.std.specs.Prelude.{ℕ, ◌+◌, ◌-◌, ◌^◌, min, max, Bool, true, false, not, ◌&&◌, ◌||◌, if◌then◌else◌, ◌==◌, nat_le, nat_lt}
 use Rattle.rtp_buffer.specs.declared.pace.Owed.{Owed}
 use Rattle.rtp_buffer.specs.declared.pace.Owed.TheVariants.{Nothing, On, Back}
@@ -27,7 +28,8 @@ reordering = 100
 
 -- ---- the delay
 
--- A period is played when its number, less the shift, is the tick. Until then it waits; the greater half of the numbers is late.
+-- A period is played when its number, less the shift, is the tick. Until then it waits; the greater half of the numbers
+-- is late.
 abbrev pub wait_of : Pace → ℕ → ℕ → ℕ
 wait_of pace period tick = back (back period pace.shift) tick
 
@@ -47,12 +49,14 @@ pace_home depth tick = record {
   watch = watch_home tick;
 }
 
--- **A longer path**: two packets in a row, each newer than all before, are late. From then on the second one waits `depth` ticks, as the first packet of
--- the stream did. One late packet alone changes nothing.
+-- **A longer path**: two packets in a row, each newer than all before, are late. From then on the second one waits
+-- `depth` ticks, as the first packet of the stream did. One late packet alone changes nothing. If the path only
+-- stalled, what comes within as many ticks as the playing moved is the rest of what it held: its waits aren't counted,
+-- while late packets of it still begin bursts.
 abbrev pub followed : Pace → ℕ → ℕ → Pace
 followed pace wait tick =
     if is_late wait && pace.was_late
-    then record pace { shift = back (on pace.shift wait) pace.depth; owed = Nothing; was_late = false; watch = watch_home tick }
+    then record pace { shift = back (on pace.shift wait) pace.depth; owed = Nothing; was_late = false; watch = watch_home (on tick (back pace.depth wait)) }
     else record pace { was_late = is_late wait }
 
 -- **Time given up**: so many periods aren't played.
@@ -65,8 +69,8 @@ given_up pace periods = record pace { shift = on pace.shift periods }
 abbrev pub median : ℕ → ℕ → ℕ → ℕ
 median a b c = max (min a b) (min (max a b) c)
 
--- A late packet begins a burst unless one began less than 5 ticks ago. It says nothing about the path if, for it to be in time, the newest one would have
--- to wait long.
+-- A late packet begins a burst unless one began less than 5 ticks ago. It says nothing about the path if, for it to be
+-- in time, the newest one would have to wait long.
 abbrev pub is_same_burst : Pace → ℕ → Bool
 is_same_burst pace tick = is_within pace.watch.last tick (burst - 1)
 
@@ -76,7 +80,8 @@ is_too_far behind = nat_lt long_wait behind && nat_lt behind (2 ^ 31)
 abbrev pub with_burst : Pace → ℕ → ℕ → Pace
 with_burst pace late tick = record pace { late_at = tick; watch = record pace.watch { before = pace.watch.last; last = record { tick = tick; late = late } } }
 
--- **Reordering**: with the third burst within 100 ticks slips back are owed, as many as the middle one of the three is late.
+-- **Reordering**: with the third burst within 100 ticks slips back are owed, as many as the middle one of the three is
+-- late.
 abbrev pub is_third : Pace → ℕ → Bool
 is_third pace tick = is_within pace.watch.before tick reordering && is_within pace.watch.last tick reordering
 
@@ -99,8 +104,8 @@ is_past (Back count) ago = nat_lt 1 count && nat_lt reordering ago
 abbrev pub due : Pace → ℕ → Bool
 due pace tick = is_due pace.watch tick
 
--- **Slips on** are owed if all packets but a hundredth part wait longer than the depth: as many as they wait longer. **One slip back** is owed if more
--- than a hundredth part come just in time or late, unless one waited long.
+-- **Slips on** are owed if all packets but a hundredth part wait longer than the depth: as many as they wait longer.
+-- **One slip back** is owed if more than a hundredth part come just in time or late, unless one waited long.
 abbrev pub owed_by : ℕ → Owed → ℕ → Bool → Owed
 owed_by depth owed least long =
     if nat_lt depth (least - most_told) then On (least - most_told - depth)
@@ -116,13 +121,15 @@ reviewed pace tick = record pace {
 
 -- ---- when a slip is made
 
--- A slip on leaves out what came of a period, and a slip back holds up a whole one: both are heard in speech. Of a part the rest may still come.
+-- A slip on leaves out what came of a period, and a slip back holds up a whole one: both are heard in speech. Of a part
+-- the rest may still come.
 abbrev pub is_speech : Owed → Bool → Bool → Bool
 is_speech Nothing waits whole = waits && whole
 is_speech (On count) waits whole = waits
 is_speech (Back count) waits whole = waits && whole
 
--- **Where it isn't heard, at once. In speech 10 ticks after the one before, and then in soft speech, or anywhere once 250 ticks have passed.**
+-- **Where it isn't heard, at once. In speech 10 ticks after the one before, and then in soft speech, or anywhere once
+-- 250 ticks have passed.**
 abbrev pub wish_in : Bool → ℕ → ℕ → Wish
 wish_in speech ago left =
     if not speech then Now else if nat_lt ago rest then Not else if left == 0 then Now else IfSoft

@@ -38,11 +38,15 @@ no_burst = record { tick = 0; late = 0 }
 abbrev pub watch_home : ℕ → Watch
 watch_home tick = record { from = tick; count = 0; waits = replicate 101 0; before = no_burst; last = no_burst }
 
+-- whether watching has begun
+abbrev pub has_begun : Watch → ℕ → Bool
+has_begun watch tick = nat_lt (back tick watch.from) (2 ^ 31)
+
 -- with a packet that waits so long: the n-th count is of packets that wait n - 50 ticks
-abbrev pub with_wait : Watch → ℕ → Watch
-with_wait watch wait =
+abbrev pub with_wait : Watch → ℕ → ℕ → Watch
+with_wait watch wait tick =
     let place = on wait most_told in
-    if nat_lt place 101 then record watch { count = on watch.count 1; waits = slice_set watch.waits place (on (slice_index watch.waits place) 1) }
+    if has_begun watch tick && nat_lt place 101 then record watch { count = on watch.count 1; waits = slice_set watch.waits place (on (slice_index watch.waits place) 1) }
     else watch
 
 -- whether there was such a burst, at most so many ticks ago

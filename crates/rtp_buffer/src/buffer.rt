@@ -6,8 +6,8 @@ ghost use Rattle.rtp_buffer.specs.Octets.{with_octet, came, after_taking, after_
 ghost use Rattle.rtp_buffer.specs.Store.{place, content, known, slot_of, is_before, IsNear};
 ghost use Rattle.rtp_buffer.specs.History.{Deed, Put, Take, LeaveOut, LeaveOutBefore, Stands, first_came, is_waiting};
 ghost use Rattle.rtp_buffer.specs.Watch.{on, back};
-ghost use Rattle.rtp_buffer.specs.Pace.{wait_of, is_late, pace_home, slipped, wished, is_owed, given_up};
-ghost use Rattle.rtp_buffer.specs.Buffer.{AllKnown, IsLacking, Waits, NothingWaits, SaysWaits, SaysKnown, period_at, newest_wait, newer_of, seen, late_behind, judged};
+ghost use Rattle.rtp_buffer.specs.Pace.{wait_of, is_late, pace_home, due, slipped, wished, is_owed, given_up};
+ghost use Rattle.rtp_buffer.specs.Buffer.{AllKnown, IsLacking, Waits, NothingWaits, SaysWaits, SaysKnown, period_at, newest_wait, newer_of, seen, late_behind, judged, outcome_of};
 
 use crate::pace::{LATE, Owed, Pace, Wish};
 use crate::store::Store;
@@ -70,7 +70,7 @@ impl<const N: usize> Buffer<N> {
         ensures pace { self.new.pace ≡ late_behind self.old.pace wait (newest_wait self.old.pace self.old.newest tick) tick }
     {
         let newest = self.newest_wait(tick);
-        self.pace.watch.see(wait);
+        self.pace.watch.see(wait, tick);
         let late = 0u32.wrapping_sub(wait);
         self.pace.straggle(late, newest.wrapping_add(late), tick);
     }
@@ -97,18 +97,21 @@ impl<const N: usize> Buffer<N> {
         is_watched: bool,
     ) -> Outcome
         requires { part + length octets.now ≤ N }
+        ensures outcome { result ≡ outcome_of self.old period part (length octets.now) tick }
         ensures shift { self.new.pace.shift ≡ self.old.pace.shift }
         ensures doubled { result ≡ Outcome.Doubled → AllKnown self.old.store.slots period part (length octets.now) × (self.new ≡ self.old) }
         ensures late { result ≡ Outcome.Late → (is_late (wait_of self.old.pace period tick) ≡ true) × IsLacking self.old.store.slots period part (length octets.now) }
         ensures stays { result ≡ Outcome.Late → (self.new.store ≡ self.old.store) × (self.new.newest ≡ self.old.newest) }
         ensures taken { result ≡ Outcome.Taken → (is_late (wait_of self.old.pace period tick) ≡ false) × IsLacking self.old.store.slots period part (length octets.now) }
         ensures stands { (deeds : List Deed) → Stands deeds self.old.store.slots → result ≡ Outcome.Taken → Stands (Put period part octets.now ∷ deeds) self.new.store.slots }
-        ensures seen { result ≡ Outcome.Taken → self.new.pace ≡ seen self.old.pace (wait_of self.old.pace period tick) is_watched }
+        ensures seen { result ≡ Outcome.Taken → self.new.pace ≡ seen self.old.pace (wait_of self.old.pace period tick) tick is_watched }
         ensures unwatched { result ≡ Outcome.Late → is_watched ≡ false → self.new.pace ≡ self.old.pace }
         ensures straggles { result ≡ Outcome.Late → is_watched ≡ true →
             self.new.pace ≡ late_behind self.old.pace (wait_of self.old.pace period tick) (newest_wait self.old.pace self.old.newest tick) tick }
         ensures newest { result ≡ Outcome.Taken → self.new.newest ≡ newer_of self.old.newest period }
         ensures own { result ≡ Outcome.Taken → (k : ℕ) → place self.new.store.slots period k ≡ with_octet (place self.old.store.slots period k) (came part octets.now (length octets.now) k) }
+        ensures same_slot { result ≡ Outcome.Taken → (other k : ℕ) → slot_of other ≡ slot_of period → other ≢ period → place self.new.store.slots other k ≡ Missing }
+        ensures other_slots { (other k : ℕ) → slot_of other ≢ slot_of period → place self.new.store.slots other k ≡ place self.old.store.slots other k }
         ensures others { (other k : ℕ) → IsNear period other → place self.new.store.slots other k ≡ place self.old.store.slots other k }
         ensures first { (k octet : ℕ) → content self.old.store.slots period k ≡ Some octet → content self.new.store.slots period k ≡ Some octet }
     {
@@ -123,7 +126,7 @@ impl<const N: usize> Buffer<N> {
             return Outcome::Late;
         }
         if is_watched {
-            self.pace.watch.see(wait);
+            self.pace.watch.see(wait, tick);
         }
         self.note_newest(period);
         self.store.put(period, part, octets);
@@ -140,6 +143,9 @@ impl<const N: usize> Buffer<N> {
         ensures owed { is_owed self.old.pace.owed ≡ true → let period = period_at self.old.pace tick in
             (waits whole : Bool) × SaysWaits self.old.store.slots period waits × SaysKnown self.old.store.slots period 0 N whole ×
             (self.new.pace ≡ (wished self.old.pace waits whole tick).0) × (result ≡ (wished self.old.pace waits whole tick).1) × (self.new.store ≡ self.old.store) }
+        ensures kept { self.old.pace.owed ≡ Owed.Nothing → due self.old.pace tick ≡ false → self.new.store ≡ self.old.store }
+        ensures left_out { self.old.pace.owed ≡ Owed.Nothing → due self.old.pace tick ≡ true → (period k : ℕ) → place self.new.store.slots period k ≡
+            (if is_before period (period_at self.old.pace tick) then after_leaving_out (place self.old.store.slots period k) else place self.old.store.slots period k) }
         ensures depth { self.new.pace.depth ≡ self.old.pace.depth }
         ensures newest { self.new.newest ≡ self.old.newest }
         ensures ahead { (period k : ℕ) → is_before period (period_at self.old.pace tick) ≡ false → place self.new.store.slots period k ≡ place self.old.store.slots period k }
@@ -169,12 +175,14 @@ impl<const N: usize> Buffer<N> {
         self.store.look(period, filler)
     }
 
-    /// Makes a slip that is owed: leaves out this tick's period, or plays the one before it again.
+    /// Makes a slip that is owed: leaves out this tick's period, or lets it wait a tick longer. The one before it then
+    /// has another turn; what was played of that one isn't played again.
     pub fn slip(&mut self, tick: u32)
         ensures pace { self.new.pace ≡ slipped self.old.pace tick }
         ensures newest { self.new.newest ≡ self.old.newest }
         ensures stands { (deeds : List Deed) → Stands deeds self.old.store.slots →
             Stands deeds self.new.store.slots ⊎ Stands (LeaveOut (period_at self.old.pace tick) ∷ deeds) self.new.store.slots }
+        ensures idle { self.old.pace.owed ≡ Owed.Nothing → self.new ≡ self.old }
         ensures on { (count : ℕ) → self.old.pace.owed ≡ Owed.On count → (k : ℕ) →
             place self.new.store.slots (period_at self.old.pace tick) k ≡ after_leaving_out (place self.old.store.slots (period_at self.old.pace tick) k) }
         ensures back { (count : ℕ) → self.old.pace.owed ≡ Owed.Back count → self.new.store ≡ self.old.store }
@@ -208,6 +216,8 @@ impl<const N: usize> Buffer<N> {
     pub fn give_up(&mut self, periods: u32, tick: u32)
         ensures pace { self.new.pace ≡ given_up self.old.pace periods }
         ensures newest { self.new.newest ≡ self.old.newest }
+        ensures left_out { (period k : ℕ) → place self.new.store.slots period k ≡
+            (if is_before period (period_at self.new.pace tick) then after_leaving_out (place self.old.store.slots period k) else place self.old.store.slots period k) }
         ensures ahead { (period k : ℕ) → is_before period (period_at self.new.pace tick) ≡ false → place self.new.store.slots period k ≡ place self.old.store.slots period k }
         ensures stands { (deeds : List Deed) → Stands deeds self.old.store.slots → Stands (LeaveOutBefore (period_at self.new.pace tick) ∷ deeds) self.new.store.slots }
     {

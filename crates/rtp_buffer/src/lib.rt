@@ -1,7 +1,9 @@
 //! The jitter buffer of one stream of RTP: what came and isn't played yet, in fixed memory, read once a tick of 20 ms.
 //!
-//! A proved live gateway stands on this crate, between the packets that `rtp_packet` reads and the two sides of a call.
-//! Nothing calls it yet: today's gateway, in Python, has a jitter buffer of its own, whose rules these are.
+//! Layer: Live packets.
+//!
+//! It stands between the packets that `rtp_packet` reads and the two sides of a call. The gateway's loop calls it
+//! through `trau_calls`.
 //!
 //! `store` and `pace` are two machines that know nothing of each other. The store knows of each octet of the last 256
 //! periods whether it came and whether it was played (`octet`, `slot`, `store`). The pace decides which period is

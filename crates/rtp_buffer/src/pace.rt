@@ -112,16 +112,17 @@ impl Pace {
     }
 
     /// A packet that is newer than all before came, and waits so long. If it is the second late one in a row, the
-    /// playing moves, so that it waits `depth` ticks.
+    /// playing moves, so that it waits `depth` ticks, and waits are watched once as many ticks have passed.
     pub fn follow(&mut self, wait: u32, tick: u32)
         ensures { self.new ≡ followed self.old wait tick }
     {
         let is_late = wait >= LATE;
         if is_late && self.was_late {
-            self.shift = self.shift.wrapping_add(wait).wrapping_sub(self.depth);
+            let moved = self.depth.wrapping_sub(wait);
+            self.shift = self.shift.wrapping_sub(moved);
             self.owed = Owed::Nothing;
             self.was_late = false;
-            self.watch = Watch::home(tick);
+            self.watch = Watch::home(tick.wrapping_add(moved));
         } else {
             self.was_late = is_late;
         }

@@ -7,9 +7,6 @@ ghost use Rattle.rtp_buffer.specs.Watch.{watch_home, with_wait, is_within, place
 /// Waits are told apart from so many ticks too late up to so many ticks, one second.
 pub(crate) const MOST_TOLD: u32 = 50;
 
-// The waits that are told apart.
-const WAITS: usize = 101;
-
 /// A packet that waits so many ticks waits long.
 pub(crate) const LONG_WAIT: u32 = 40;
 
@@ -31,7 +28,7 @@ pub struct Burst {
     pub late: u32,
 }
 
-/// What was seen since a tick.
+/// What was seen from a tick on, which may be ahead.
 #[derive(Clone, Copy)]
 #[repr(C)]
 pub struct Watch {
@@ -94,12 +91,13 @@ impl Watch {
         }
     }
 
-    /// A packet came that waits so long.
-    pub fn see(&mut self, wait: u32)
-        ensures { self.new ≡ with_wait self.old wait }
+    /// A packet came at this tick that waits so long.
+    pub fn see(&mut self, wait: u32, tick: u32)
+        ensures { self.new ≡ with_wait self.old wait tick }
     {
         let place = wait.wrapping_add(MOST_TOLD);
-        if place < 101 {
+        let has_begun = tick.wrapping_sub(self.from) < 0x8000_0000;
+        if has_begun && place < 101 {
             let seen = self.waits[place as usize];
             self.waits[place as usize] = seen.wrapping_add(1);
             self.count = self.count.wrapping_add(1);

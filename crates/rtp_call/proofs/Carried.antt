@@ -1,5 +1,5 @@
 -- A period of the coders, as one of the call.
-use Rattle.std.proofs.Common.{◌≡◌, ℕ, List, ◌∷◌, sym, subst}
+use Rattle.std.proofs.Common.{◌≡◌, ℕ, List, sym, subst}
 use Rattle.trau_alaw.specs.declared.Law.{Law}
 use Rattle.fr_sides.specs.Memory.{receiver_memory, sender_memory}
 use Rattle.call_leg.specs.Periods.{CallPeriod}

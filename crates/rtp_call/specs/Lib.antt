@@ -1,1 +1,4 @@
+pub mod Hearing
+pub mod Playing
+pub mod Sending
 pub mod Call

@@ -1,23 +1,71 @@
 //! A call, a datagram or a period at a time.
 
-ghost use Rattle.std.specs.Prelude.{◌≡◌, ◌≢◌, ◌==◌, ℕ, ℤ, Bool, true, List, [], ◌∷◌};
+ghost use Rattle.std.specs.Prelude.{◌≡◌, ◌≢◌, ℕ, ℤ, Bool, true, None, IfSome, unwrap_or, List, [], ◌∷◌, replicate};
 ghost use Rattle.trau_alaw.specs.declared.Law.{Law};
+ghost use Rattle.trau_alaw.specs.Laws.{idle_of};
 ghost use Rattle.fr_sides.specs.Memory.{receiver_memory, sender_memory};
 ghost use Rattle.call_leg.specs.Periods.{CallPeriod};
 ghost use Rattle.call_coders.specs.Replay.{CallStands, Replays, CanBeBridged, who_is, period_of, bridged_period, item_of};
 ghost use Rattle.rtp_session.specs.Incoming.{IsAdmitted, IsUntouched, PlaysTheSame};
-ghost use Rattle.rtp_session.specs.Outgoing.{header_at, IsMedia, Carries};
-ghost use Rattle.rtp_call.specs.Call.{IsReady, CarriesDown};
+ghost use Rattle.rtp_session.specs.Datagram.{TakesDatagram};
+ghost use Rattle.rtp_session.specs.Playing.{GivesUp};
+ghost use Rattle.rtp_session.specs.Outgoing.{header_at, sent, gone_on, IsMedia, Carries};
+ghost use Rattle.rtp_call.specs.Sending.{is_speech, is_sent, pause_after, station_after};
+ghost use Rattle.rtp_call.specs.Call.{IsReady, BeginsCall, no_line_after, HearsStation, HearsExchange, RecordsInput, SpeaksToStation, SpeaksToExchange};
 
 use crate::hearing::Hearing;
 use crate::playing::{take_frame, take_line};
 use crate::sending::send_frame;
-use call_coders::{Coders, Input, Processed, Record, bridged};
-use rtp_session::{Incoming, Outcome, Outgoing};
+use call_coders::{Coders, Input, Record, Spoken, bridged};
+use rtp_session::{Incoming, Outcome, Outgoing, is_media};
 use trau_alaw::{Law, idle_octet};
 
-// The payload type of full rate frames (RFC 3551, section 6).
-const GSM: u8 = 3;
+/// What a call begins with.
+#[derive(Clone, Copy)]
+pub struct Settings {
+    /// The call's number.
+    pub number: u16,
+    /// The law of the octets from and to the exchange.
+    pub law: Law,
+    /// The ticks that the first packet of a side waits.
+    pub depth: u32,
+    /// Whether a first period without a good frame brings one of silence.
+    pub prime: bool,
+    /// The payload type of frames: 3, or a dynamic one (RFC 3551, section 6).
+    pub gsm: u8,
+    /// The payload type of octets by the law: 8 for A-law, 0 for mu-law, or a dynamic one.
+    pub pcm: u8,
+}
+
+/// The datagrams of a period.
+#[derive(Clone, Copy)]
+#[repr(C)]
+pub struct Datagrams {
+    /// The one to the base station, if it is sent.
+    pub gsm: [u8; 45],
+    /// The one to the exchange.
+    pub pcm: [u8; 172],
+}
+
+/// The records of the two calls of a bridge.
+#[derive(Clone, Copy)]
+#[repr(C)]
+pub struct Records {
+    /// Of the one call.
+    pub one: Record,
+    /// Of the other one.
+    pub other: Record,
+}
+
+/// The datagrams of the two calls of a bridge.
+#[derive(Clone, Copy)]
+#[repr(C)]
+pub struct PairDatagrams {
+    /// Of the one call.
+    pub one: Datagrams,
+    /// Of the other one.
+    pub other: Datagrams,
+}
 
 /// A call: what comes from both sides, the coders, and what goes out.
 #[derive(Drop)]
@@ -42,50 +90,55 @@ pub struct Call {
     pub to_pcm: Outgoing,
 }
 
-// The payload type of octets by a law (RFC 3551, section 6).
-fn payload_type_of(law: Law) -> u8
-    ensures { IsMedia result }
+// The octets of a period of a line, idle ones if none came, which counts.
+fn octets_of(line: Option<[u8; 160]>, law: Law, no_line: &mut u32) -> [u8; 160]
+    ensures octets { result ≡ unwrap_or line (replicate 160 (idle_of law)) }
+    ensures count { no_line.new ≡ no_line_after line no_line.old }
 {
-    match law {
-        Law::A => 8,
-        Law::Mu => 0,
+    match line {
+        Some(octets) => octets,
+        None => {
+            *no_line = no_line.wrapping_add(1);
+            [idle_octet(law); 160]
+        }
     }
 }
 
 impl Call {
-    /// A call before its first period. The first packet of a side waits `depth` ticks; `prime`: a first period without a good
-    /// frame brings one of silence; `to_gsm` and `to_pcm`: random octets, with which the outgoing streams begin.
-    pub fn home(
-        number: u16,
-        law: Law,
-        depth: u32,
-        prime: bool,
-        to_gsm: &[u8; 10],
-        to_pcm: &[u8; 10],
-    ) -> Call
-        ensures stands { CallStands (who_is number law) [] (receiver_memory result.coders.receiver) (sender_memory result.coders.sender) }
-        ensures law { result.law ≡ law }
-        ensures ready { IsReady result }
+    /// A call before its first period. The outgoing streams begin with random octets, ten each. None if a payload type
+    /// isn't one of media.
+    pub fn home(settings: &Settings, random: &[u8; 20]) -> Option<Call>
+        ensures some { IfSome result (λ call. BeginsCall settings.now random.now call) }
+        ensures none { result ≡ None → IsMedia settings.now.gsm → IsMedia settings.now.pcm → ⊥ }
+        ensures stands { IfSome result (λ call. CallStands (who_is settings.now.number settings.now.law) [] (receiver_memory call.coders.receiver)
+            (sender_memory call.coders.sender)) }
+        ensures ready { IfSome result (λ call. IsReady call) }
     {
-        let line = payload_type_of(law);
-        Call {
-            law,
-            coders: Coders::home(number),
-            hearing: Hearing::home(prime),
+        if !is_media(settings.gsm) || !is_media(settings.pcm) {
+            return None;
+        }
+        Some(Call {
+            law: settings.law,
+            coders: Coders::home(settings.number),
+            hearing: Hearing::home(settings.prime),
             pause: None,
             no_line: 0,
-            gsm: Incoming::home(GSM, true, depth),
-            pcm: Incoming::home(line, false, depth),
-            to_gsm: Outgoing::home(GSM, to_gsm),
-            to_pcm: Outgoing::home(line, to_pcm),
-        }
+            gsm: Incoming::home(settings.gsm, true, settings.depth),
+            pcm: Incoming::home(settings.pcm, false, settings.depth),
+            to_gsm: Outgoing::home(settings.gsm, &random[..10]),
+            to_pcm: Outgoing::home(settings.pcm, &random[10..]),
+        })
     }
 
     /// Takes a datagram from the base station.
     pub fn packet_from_station(&mut self, datagram: &[u8], tick: u32, behind: u32) -> Outcome
         requires { IsReady self.old }
 
-        // A stranger's datagram changes nothing but counts, who is on probation, and what came of the source that is heard.
+        // What becomes of it, by its octets, the stream and the tick (`TakesDatagram`).
+        ensures takes { TakesDatagram self.old.gsm self.new.gsm datagram.now tick behind result }
+
+        // A stranger's datagram changes nothing but counts, who is on probation, and what came of the source that is
+        // heard, of which `takes` says more.
         ensures only { (IsAdmitted self.old.gsm datagram.now tick → ⊥) → IsUntouched self.old.gsm self.new.gsm }
         ensures refused { result ≢ Outcome.Taken → PlaysTheSame self.old.gsm.stream self.new.gsm.stream }
 
@@ -99,6 +152,10 @@ impl Call {
     /// Takes a datagram from the exchange.
     pub fn packet_from_exchange(&mut self, datagram: &[u8], tick: u32, behind: u32) -> Outcome
         requires { IsReady self.old }
+        ensures takes { TakesDatagram self.old.pcm self.new.pcm datagram.now tick behind result }
+
+        // A stranger's datagram changes nothing but counts, who is on probation, and what came of the source that is
+        // heard, of which `takes` says more.
         ensures only { (IsAdmitted self.old.pcm datagram.now tick → ⊥) → IsUntouched self.old.pcm self.new.pcm }
         ensures refused { result ≢ Outcome.Taken → PlaysTheSame self.old.pcm.stream self.new.pcm.stream }
         ensures others { self.new ≡ record self.old { pcm = self.new.pcm } }
@@ -107,82 +164,99 @@ impl Call {
         self.pcm.packet(datagram, tick, behind)
     }
 
-    // What a period has from both sides.
-    fn input(&mut self, tick: u32) -> Input
+    // What a period has from both sides; the octets from the exchange go into its record.
+    fn input(&mut self, tick: u32, recorded: &mut Record) -> Input
         requires { IsReady self.old }
         ensures law { result.law ≡ self.old.law }
+        ensures station { HearsStation self.old self.new tick result.brought }
+        ensures exchange { HearsExchange self.old self.new tick recorded.new.pcm }
         ensures others { self.new ≡ record self.old { hearing = self.new.hearing; no_line = self.new.no_line; gsm = self.new.gsm; pcm = self.new.pcm } }
         ensures ready { IsReady self.new }
     {
         let frame = take_frame(&mut self.gsm, tick);
         let brought = self.hearing.hear(frame);
         let law = self.law;
-        let pcm = match take_line(&mut self.pcm, law, tick) {
-            Some(pcm) => pcm,
-            None => {
-                self.no_line = self.no_line.wrapping_add(1);
-                [idle_octet(law); 160]
-            }
-        };
-        Input { law, brought, pcm }
+        let line = take_line(&mut self.pcm, law, tick);
+        recorded.pcm = octets_of(line, law, &mut self.no_line);
+        Input { law, brought }
     }
 
     // The datagrams of a period. Returns whether the base station gets one.
     fn send(
         &mut self,
-        processed: &Processed,
+        spoken: &Spoken,
+        out: &[u8; 160],
         tick: u32,
-        gsm: &mut [u8; 45],
-        pcm: &mut [u8; 172],
+        datagrams: &mut Datagrams,
     ) -> bool
         requires { IsReady self.old }
-        ensures gsm { result ≡ true → Carries gsm.new (header_at self.old.to_gsm tick (processed.now.kind == 0)) processed.now.frame }
-        ensures pcm { Carries pcm.new (header_at self.old.to_pcm tick true) processed.now.record.out }
+        ensures sent { result ≡ is_sent spoken.now.kind self.old.pause }
+        ensures gsm { result ≡ true → Carries datagrams.new.gsm (header_at self.old.to_gsm tick (is_speech spoken.now.kind)) spoken.now.frame }
+        ensures to_gsm { self.new.to_gsm ≡ station_after spoken.now.kind self.old.pause self.old.to_gsm }
+        ensures pause { self.new.pause ≡ pause_after spoken.now.kind self.old.pause }
+        ensures pcm { Carries datagrams.new.pcm (header_at self.old.to_pcm tick true) out.now }
+        ensures to_pcm { self.new.to_pcm ≡ sent self.old.to_pcm 160 true }
         ensures others { self.new ≡ record self.old { pause = self.new.pause; to_gsm = self.new.to_gsm; to_pcm = self.new.to_pcm } }
         ensures ready { IsReady self.new }
     {
-        self.to_pcm.packet(tick, &processed.record.out, true, pcm);
-        send_frame(&mut self.to_gsm, &mut self.pause, processed, tick, gsm)
+        self.to_pcm.packet(tick, out, true, &mut datagrams.pcm);
+        send_frame(
+            &mut self.to_gsm,
+            &mut self.pause,
+            spoken,
+            tick,
+            &mut datagrams.gsm,
+        )
     }
 
-    /// Processes a period of a call that is in no bridge: plays what came from both sides, and writes the datagram to the
-    /// exchange, and the one to the base station if the answer says so.
+    /// Processes a period of a call that is in no bridge: plays what came from both sides, and writes what is recorded,
+    /// the datagram to the exchange, and the one to the base station if the answer says so.
     pub fn turn(
         &mut self,
         tick: u32,
         level: i16,
         dtx: bool,
-        gsm: &mut [u8; 45],
-        pcm: &mut [u8; 172],
-    ) -> (Record, bool)
+        recorded: &mut Record,
+        datagrams: &mut Datagrams,
+    ) -> bool
         requires { IsReady self.old }
 
-        // If the coders stand for the recorded periods so far: the recorded Out and Down are those that `trau run` makes of the
-        // recorded Up and Pcm, whatever the network brought.
+        // If the coders stand for the recorded periods so far: the recorded Out and Down are those that `trau run`
+        // makes of the recorded Up and Pcm, whatever the network brought.
         ensures replay { (number : ℕ) (past : List CallPeriod) →
             CallStands (who_is number self.old.law) past (receiver_memory self.old.coders.receiver) (sender_memory self.old.coders.sender) →
-            Replays (who_is number self.old.law) (period_of result.0.up result.0.pcm level dtx ∷ past) (receiver_memory self.new.coders.receiver)
-            (sender_memory self.new.coders.sender) result.0.out result.0.down }
+            Replays (who_is number self.old.law) (period_of recorded.new.up recorded.new.pcm level dtx ∷ past) (receiver_memory self.new.coders.receiver)
+            (sender_memory self.new.coders.sender) recorded.new.out recorded.new.down }
 
-        // If a datagram is sent and Down isn't idle, the base station gets the frame of Down. The exchange gets the octets of Out.
-        ensures gsm { result.1 ≡ true → CarriesDown self.old.to_gsm tick gsm.new result.0.down }
-        ensures pcm { Carries pcm.new (header_at self.old.to_pcm tick true) result.0.out }
+        // Up and Pcm are what came: what each stream plays at this tick.
+        ensures input { RecordsInput self.old self.new tick recorded.new.up recorded.new.pcm }
+
+        // The base station gets the frame of Down, if the answer says so; the exchange gets the octets of Out.
+        ensures gsm { SpeaksToStation self.old self.new tick recorded.new.down datagrams.new.gsm result }
+        ensures pcm { SpeaksToExchange self.old self.new tick recorded.new.out datagrams.new.pcm }
         ensures law { self.new.law ≡ self.old.law }
         ensures ready { IsReady self.new }
     {
-        let input = self.input(tick);
-        let processed = self
-            .coders
-            .period(input.law, &input.brought, &input.pcm, level, dtx);
-        let is_sent = self.send(&processed, tick, gsm, pcm);
-        (processed.record, is_sent)
+        let input = self.input(tick, recorded);
+        let spoken = self.coders.period(&input, level, dtx, recorded);
+        self.send(&spoken, &recorded.out, tick, datagrams)
     }
 
     /// The clock has given up so many periods.
     pub fn give_up(&mut self, periods: u32, tick: u32)
         requires { IsReady self.old }
-        ensures coders { self.new.coders ≡ self.old.coders }
-        ensures law { self.new.law ≡ self.old.law }
+        ensures from_gsm { GivesUp self.old.gsm.stream self.new.gsm.stream periods tick }
+        ensures from_pcm { GivesUp self.old.pcm.stream self.new.pcm.stream periods tick }
+        ensures to_gsm { self.new.to_gsm ≡ gone_on periods self.old.to_gsm }
+        ensures to_pcm { self.new.to_pcm ≡ gone_on periods self.old.to_pcm }
+
+        // The coders, and so the recorded periods that they stand for, stay.
+        ensures others { self.new ≡ record self.old {
+          gsm = record self.old.gsm { stream = self.new.gsm.stream };
+          pcm = record self.old.pcm { stream = self.new.pcm.stream };
+          to_gsm = self.new.to_gsm;
+          to_pcm = self.new.to_pcm;
+        } }
         ensures ready { IsReady self.new }
     {
         self.gsm.give_up(periods, tick);
@@ -192,41 +266,55 @@ impl Call {
     }
 }
 
-/// Processes a period of the two calls of a bridge: both hear before one speaks. Returns the records.
+/// Processes a period of the two calls of a bridge: both hear before one speaks. Returns of each whether the datagram
+/// to its base station is sent.
 pub fn turn_pair(
     one: &mut Call,
     other: &mut Call,
     tick: u32,
-    one_gsm: &mut [u8; 45],
-    one_pcm: &mut [u8; 172],
-    other_gsm: &mut [u8; 45],
-    other_pcm: &mut [u8; 172],
-) -> (Record, Record, bool, bool)
+    records: &mut Records,
+    datagrams: &mut PairDatagrams,
+) -> (bool, bool)
     requires one { IsReady one.old }
     requires other { IsReady other.old }
 
-    // Each call is handed what the other one's call of `trau run` hands over (`items_are_effective_frames` of `call_coders`).
+    // Each call is handed what the other one's call of `trau run` hands over (`items_are_effective_frames` of
+    // `call_coders`).
     ensures replay { (number other_number : ℕ) (past other_past : List CallPeriod) (level other_level : ℤ) (dtx other_dtx starts other_starts : Bool) →
         CallStands (who_is number one.old.law) past (receiver_memory one.old.coders.receiver) (sender_memory one.old.coders.sender) →
         CallStands (who_is other_number other.old.law) other_past (receiver_memory other.old.coders.receiver) (sender_memory other.old.coders.sender) →
         CanBeBridged starts past → CanBeBridged other_starts other_past →
         Replays (who_is number one.old.law)
-        (bridged_period result.0.up result.0.pcm level dtx starts (item_of other_number result.1.up other_past) ∷ past)
-        (receiver_memory one.new.coders.receiver) (sender_memory one.new.coders.sender) result.0.out result.0.down
+        (bridged_period records.new.one.up records.new.one.pcm level dtx starts (item_of other_number records.new.other.up other_past) ∷ past)
+        (receiver_memory one.new.coders.receiver) (sender_memory one.new.coders.sender) records.new.one.out records.new.one.down
         × Replays (who_is other_number other.old.law)
-        (bridged_period result.1.up result.1.pcm other_level other_dtx other_starts (item_of number result.0.up past) ∷ other_past)
-        (receiver_memory other.new.coders.receiver) (sender_memory other.new.coders.sender) result.1.out result.1.down }
-    ensures gsm { (result.2 ≡ true → CarriesDown one.old.to_gsm tick one_gsm.new result.0.down)
-        × (result.3 ≡ true → CarriesDown other.old.to_gsm tick other_gsm.new result.1.down) }
-    ensures pcm { Carries one_pcm.new (header_at one.old.to_pcm tick true) result.0.out
-        × Carries other_pcm.new (header_at other.old.to_pcm tick true) result.1.out }
+        (bridged_period records.new.other.up records.new.other.pcm other_level other_dtx other_starts (item_of number records.new.one.up past) ∷ other_past)
+        (receiver_memory other.new.coders.receiver) (sender_memory other.new.coders.sender) records.new.other.out records.new.other.down }
+
+    // Up and Pcm of both are what came.
+    ensures input { RecordsInput one.old one.new tick records.new.one.up records.new.one.pcm
+        × RecordsInput other.old other.new tick records.new.other.up records.new.other.pcm }
+
+    // Both base stations get the speech that Down carries.
+    ensures sent { result ≡ (true, true) }
+    ensures gsm { SpeaksToStation one.old one.new tick records.new.one.down datagrams.new.one.gsm true
+        × SpeaksToStation other.old other.new tick records.new.other.down datagrams.new.other.gsm true }
+    ensures pcm { SpeaksToExchange one.old one.new tick records.new.one.out datagrams.new.one.pcm
+        × SpeaksToExchange other.old other.new tick records.new.other.out datagrams.new.other.pcm }
     ensures laws { (one.new.law ≡ one.old.law) × (other.new.law ≡ other.old.law) }
     ensures ready { IsReady one.new × IsReady other.new }
 {
-    let to_one = one.input(tick);
-    let to_other = other.input(tick);
-    let (first, second) = bridged(&mut one.coders, &mut other.coders, &to_one, &to_other);
-    let is_one_sent = one.send(&first, tick, one_gsm, one_pcm);
-    let is_other_sent = other.send(&second, tick, other_gsm, other_pcm);
-    (first.record, second.record, is_one_sent, is_other_sent)
+    let to_one = one.input(tick, &mut records.one);
+    let to_other = other.input(tick, &mut records.other);
+    let (first, second) = bridged(
+        &mut one.coders,
+        &mut other.coders,
+        &to_one,
+        &to_other,
+        &mut records.one,
+        &mut records.other,
+    );
+    let is_one_sent = one.send(&first, &records.one.out, tick, &mut datagrams.one);
+    let is_other_sent = other.send(&second, &records.other.out, tick, &mut datagrams.other);
+    (is_one_sent, is_other_sent)
 }

@@ -1,12 +1,16 @@
-//! A call of a live gateway: two RTP sessions, with the base station and with the exchange, and the coders between them.
+//! A call of a live gateway: two RTP sessions, with the base station and with the exchange, and the coders between
+//! them.
 //!
-//! A proved live gateway calls this crate once for each datagram and once for each period of 20 ms, or of two calls in a
-//! bridge. Nothing calls it yet: today's gateway, in Python, has calls of its own, whose rules these are.
+//! Layer: One call.
+//!
+//! It is called once for each datagram and once for each period of 20 ms, or of two calls in a bridge. The gateway's
+//! loop calls it through `trau_calls`.
 //!
 //! `call` is all of a call. `hearing` says what a period brought from the base station, `playing` takes it and the
 //! exchange's period from the jitter buffers, and `sending` makes the datagrams of a period.
 //!
-//! Definitions: `specs/Call.antt` (what a period leaves behind).
+//! Definitions: `specs/Call.antt` (how a call begins, and what a period of it leaves behind), `specs/Hearing.antt`
+//! (what a period brought), `specs/Playing.antt` (which periods are soft), `specs/Sending.antt` (when a frame is sent).
 #![tactic(auto)]
 
 mod call;
@@ -14,5 +18,5 @@ mod hearing;
 mod playing;
 mod sending;
 
-pub use call::{Call, turn_pair};
+pub use call::{Call, Datagrams, PairDatagrams, Records, Settings, turn_pair};
 pub use hearing::Hearing;

@@ -1,7 +1,10 @@
 //! The periods that are played, and the slips between them.
 
-ghost use Rattle.std.specs.Prelude.{◌≡◌, ◌<◌};
+ghost use Rattle.std.specs.Prelude.{◌≡◌, ◌<◌, true, false};
+ghost use Rattle.trau_alaw.specs.Laws.{idle_of};
 ghost use Rattle.rtp_session.specs.Incoming.{IsSound};
+ghost use Rattle.rtp_session.specs.Playing.{IsSlipped, Decides, counts_after, PlaysPeriod};
+ghost use Rattle.rtp_call.specs.Playing.{maximum_at, IsSoftFrame, IsSoftLine};
 
 use fr_sides::{SPEECH, kind_of_octets};
 use rtp_buffer::Wish;
@@ -17,57 +20,88 @@ const SOFT_SAMPLE: i16 = 256;
 // The code of a block maximum that begins in the last five bits of an octet (RFC 3551, section 4.5.8.1).
 fn maximum(frame: &[u8; 33], at: usize) -> u8
     requires { at < 32 }
+    ensures { result ≡ maximum_at frame.now at }
 {
     frame[at] % 32 * 2 + frame[at + 1] / 128
 }
 
 // Whether a frame is soft speech. A silence descriptor isn't: a pause needs it.
-fn is_soft_frame(frame: &[u8; 33]) -> bool {
+fn is_soft_frame(frame: &[u8; 33]) -> bool
+    ensures { IsSoftFrame frame.now result }
+{
+    let kind = kind_of_octets(frame);
     maximum(frame, 6) <= SOFT_BLOCK
         && maximum(frame, 13) <= SOFT_BLOCK
         && maximum(frame, 20) <= SOFT_BLOCK
         && maximum(frame, 27) <= SOFT_BLOCK
-        && kind_of_octets(frame) == SPEECH
+        && kind == SPEECH
 }
 
 // Whether a period of a line is soft.
-fn is_soft_line(law: Law, octets: &[u8; 160]) -> bool {
+fn is_soft_line(law: Law, octets: &[u8; 160]) -> bool
+    ensures { IsSoftLine law octets.now result }
+{
     expand_all(law, octets)
         .iter()
         .all(|x| *x < SOFT_SAMPLE && *x > -SOFT_SAMPLE)
 }
 
-/// The frame that came for the period at a tick.
-pub(crate) fn take_frame(gsm: &mut Incoming<33>, tick: u32) -> Option<[u8; 33]>
-    requires { IsSound gsm.old.stream }
-    ensures sound { IsSound gsm.new.stream }
-    ensures payload_type { gsm.new.payload_type ≡ gsm.old.payload_type }
+// Whether an owed slip of frames is made.
+fn is_frame_slip(gsm: &Incoming<33>, wish: Wish, tick: u32) -> bool
+    ensures { Decides IsSoftFrame gsm.now.stream.buffer tick 0 wish result }
 {
-    let is_slip = match gsm.prepare(tick) {
+    match wish {
         Wish::Not => false,
         Wish::Now => true,
         Wish::IfSoft => is_soft_frame(&gsm.look(tick, 0)),
-    };
-    if is_slip {
-        gsm.slip(tick);
     }
+}
+
+// Whether one of a line is.
+fn is_line_slip(pcm: &Incoming<160>, law: Law, wish: Wish, tick: u32) -> bool
+    ensures { Decides (IsSoftLine law) pcm.now.stream.buffer tick (idle_of law) wish result }
+{
+    match wish {
+        Wish::Not => false,
+        Wish::Now => true,
+        Wish::IfSoft => is_soft_line(law, &pcm.look(tick, idle_octet(law))),
+    }
+}
+
+// Makes it.
+fn slip_if<const N: usize>(stream: &mut Incoming<N>, is_slip: bool, tick: u32)
+    ensures slips { is_slip ≡ true → IsSlipped stream.old.stream.buffer stream.new.stream.buffer tick }
+    ensures stays { is_slip ≡ false → stream.new.stream.buffer ≡ stream.old.stream.buffer }
+    ensures counts { stream.new.counts ≡ counts_after is_slip stream.old.stream.buffer stream.old.counts }
+    ensures others { stream.new ≡ record stream.old { counts = stream.new.counts; stream = record stream.old.stream { buffer = stream.new.stream.buffer } } }
+{
+    if is_slip {
+        stream.slip(tick);
+    }
+}
+
+/// The frame that came for the period at a tick, after the slip that is due.
+pub(crate) fn take_frame(gsm: &mut Incoming<33>, tick: u32) -> Option<[u8; 33]>
+    requires { IsSound gsm.old.stream }
+    ensures plays { PlaysPeriod IsSoftFrame gsm.old gsm.new tick 0 result }
+    ensures sound { IsSound gsm.new.stream }
+    ensures payload_type { gsm.new.payload_type ≡ gsm.old.payload_type }
+{
+    let wish = gsm.prepare(tick);
+    let is_slip = is_frame_slip(gsm, wish, tick);
+    slip_if(gsm, is_slip, tick);
     gsm.take(tick, 0)
 }
 
 /// The octets that came from the exchange for the period at a tick, if some came.
 pub(crate) fn take_line(pcm: &mut Incoming<160>, law: Law, tick: u32) -> Option<[u8; 160]>
     requires { IsSound pcm.old.stream }
+    ensures plays { PlaysPeriod (IsSoftLine law) pcm.old pcm.new tick (idle_of law) result }
     ensures sound { IsSound pcm.new.stream }
     ensures payload_type { pcm.new.payload_type ≡ pcm.old.payload_type }
 {
-    let idle = idle_octet(law);
-    let is_slip = match pcm.prepare(tick) {
-        Wish::Not => false,
-        Wish::Now => true,
-        Wish::IfSoft => is_soft_line(law, &pcm.look(tick, idle)),
-    };
-    if is_slip {
-        pcm.slip(tick);
-    }
-    pcm.take(tick, idle)
+    let wish = pcm.prepare(tick);
+    let is_slip = is_line_slip(pcm, law, wish, tick);
+    slip_if(pcm, is_slip, tick);
+    pcm.take(tick, idle_octet(law))
 }

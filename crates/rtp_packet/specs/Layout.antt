@@ -14,7 +14,8 @@ pub record Parts : Type 0 where
 abbrev pub joined : Parts → List ℕ
 joined parts = parts.head ++ (parts.sources ++ (parts.extension ++ (parts.payload ++ parts.padding)))
 
--- An extension, if there is one: four octets, the third and the fourth of which say how many words of four octets follow, and these.
+-- An extension, if there is one: four octets, the third and the fourth of which say how many words of four octets
+-- follow, and these.
 abbrev pub IsExtension : Bool → List ℕ → Type 0
 IsExtension false part = part ≡ []
 IsExtension true part = length part ≡ 4 + 4 * number_of_two part 2

@@ -26,8 +26,8 @@ header_of xs = record {
 abbrev pub plain_octet : ℕ
 plain_octet = 128
 
--- The first octet: its two highest bits are the version, the next says whether there is padding, the next whether there is an extension, the last
--- four how many contributing sources of four octets there are.
+-- The first octet: its two highest bits are the version, the next says whether there is padding, the next whether there
+-- is an extension, the last four how many contributing sources of four octets there are.
 abbrev pub version_of : List ℕ → ℕ
 version_of xs = slice_index xs 0 / 64
 
@@ -41,8 +41,8 @@ has_extension xs = slice_index xs 0 / 16 % 2 == 1
 abbrev pub sources_end : List ℕ → ℕ
 sources_end xs = 12 + 4 * (slice_index xs 0 % 16)
 
--- The octet at which the payload begins; None if the datagram ends before that is known. The third and the fourth octet of an extension say how
--- many words of four octets follow them.
+-- The octet at which the payload begins; None if the datagram ends before that is known. The third and the fourth octet
+-- of an extension say how many words of four octets follow them.
 abbrev pub payload_from : List ℕ → Option ℕ
 payload_from xs =
     if has_extension xs then

@@ -1,4 +1,5 @@
--- What came of one source (RFC 3550, appendices A.1, A.3 and A.8), a packet at a time. After the greatest number of 16 or 32 bits comes 0.
+-- What came of one source (RFC 3550, appendices A.1, A.3 and A.8), a packet at a time. After the greatest number of 16
+-- or 32 bits comes 0.
 use Rattle.std.specs.Prelude.{ℕ, ◌+◌, ◌-◌, ◌*◌, ◌/◌, ◌%◌, ◌^◌, Bool, true, false, ◌&&◌, if◌then◌else◌, ◌==◌, nat_le, nat_lt, Option, Some, None}
 use Rattle.rtp_packet.specs.declared.reception.Reception.{Reception}
 
@@ -13,7 +14,8 @@ back bits a b = (a + (2 ^ bits - b)) % 2 ^ bits
 abbrev pub distance : ℕ → ℕ → ℕ
 distance a b = if nat_lt (back 32 a b) (2 ^ 31) then back 32 a b else back 32 b a
 
--- the greatest gap between numbers of one run of packets (A.1), and the movement, a second, from which on nothing is said about jitter
+-- the greatest gap between numbers of one run of packets (A.1), and the movement, a second, from which on nothing is
+-- said about jitter
 abbrev pub most_gap : ℕ
 most_gap = 3000
 
@@ -53,7 +55,8 @@ ahead_of r number = back 16 number (r.highest % 2 ^ 16)
 abbrev pub with_near : Reception → ℕ → Reception
 with_near r ahead = if nat_le ahead most_gap then record r { highest = on 32 r.highest ahead } else r
 
--- A number that is far away doesn't count. If the very next one follows, the sender began anew (A.1), and nothing counts as missing for it.
+-- A number that is far away doesn't count. If the very next one follows, the sender began anew (A.1), and nothing
+-- counts as missing for it.
 abbrev pub is_restart : Option ℕ → ℕ → Bool
 is_restart None number = false
 is_restart (Some next) number = next == number

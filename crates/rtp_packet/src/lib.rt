@@ -1,7 +1,9 @@
 //! RTP packets (RFC 3550), from octets that nobody vouches for.
 //!
-//! A proved live gateway stands on this crate: its first step is from a datagram to a packet, its last one from a
-//! payload to a datagram. Nothing calls it yet: today's gateway, in Python, has its own reader.
+//! Layer: Live packets.
+//!
+//! The gateway's first step is from a datagram to a packet, its last one from a payload to a datagram. Its loop calls
+//! this crate through `trau_calls`.
 //!
 //! `packet` reads a datagram (section 5.1): any octets are one packet, or are refused for one reason. `header` writes
 //! the twelve octets that begin a packet. `laws` says which octets are a packet, and that what is written is read

@@ -131,8 +131,8 @@ impl Reception {
         self.transit = transit;
     }
 
-    /// Counts a packet by its sequence number, also a late or a doubled one. `transit`: its arrival less its time stamp,
-    /// in units of the time stamp modulo 2 to the 32nd, if its arrival is known.
+    /// Counts a packet by its sequence number, also a late or a doubled one. `transit`: its arrival less its time
+    /// stamp, in units of the time stamp modulo 2 to the 32nd, if its arrival is known.
     pub fn count(&mut self, number: u16, transit: Option<u32>)
         requires { self.old.jitter ≤ most_jitter }
         ensures value { self.new ≡ counted self.old number transit }

@@ -1,2 +1,3 @@
 mod Judged
+mod Taken
 mod Written

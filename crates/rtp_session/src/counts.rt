@@ -1,5 +1,8 @@
 //! What came of the datagrams of a session, by reasons.
 
+ghost use Rattle.std.specs.Prelude.{◌≡◌};
+ghost use Rattle.rtp_session.specs.Counts.{no_counts};
+
 /// Counts of datagrams, modulo 2 to the 32nd; those of periods are named.
 #[derive(Clone, Copy)]
 pub struct Counts {
@@ -43,7 +46,9 @@ pub struct Counts {
 
 impl Counts {
     /// Nothing is counted yet.
-    pub fn home() -> Counts {
+    pub fn home() -> Counts
+        ensures { result ≡ no_counts }
+    {
         Counts {
             no_packet: 0,
             control: 0,

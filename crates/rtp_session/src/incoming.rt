@@ -1,11 +1,11 @@
 //! The stream that comes into a session, from datagrams that nobody vouches for.
 
-ghost use Rattle.std.specs.Prelude.{◌≡◌, ◌≢◌, ◌<◌, ◌≤◌, ◌*◌, ℕ, true, false, None, IfSome, length, slice_index};
-ghost use Rattle.rtp_buffer.specs.Octets.{heard};
-ghost use Rattle.rtp_buffer.specs.Store.{place};
-ghost use Rattle.rtp_buffer.specs.Buffer.{period_at, NothingWaits};
-ghost use Rattle.rtp_stream.specs.Stream.{is_taken};
-ghost use Rattle.rtp_session.specs.Incoming.{IsHeard, IsAdmitted, IsUntouched, PlaysTheSame, IsSound};
+ghost use Rattle.std.specs.Prelude.{◌≡◌, ◌≢◌, ◌<◌, ◌≤◌, ◌*◌, ◌==◌, if◌then◌else◌, ℕ, true, false, length};
+ghost use Rattle.rtp_stream.specs.Stream.{is_taken, judged_in};
+ghost use Rattle.rtp_session.specs.Counts.{with_outcome, with_slip};
+ghost use Rattle.rtp_session.specs.Incoming.{IsHeard, IsAdmitted, IsUntouched, KeepsSettings, PlaysTheSame, IsSound, BeginsSession};
+ghost use Rattle.rtp_session.specs.Datagram.{refused_by, samples_of, arrival_in, outcome_by, outcome_unless, packet_outcome, unplayed_by, received_by, received_unless, sources_unless, track_by, track_unless, Arrives, octet_of, LaysOver, LaysPayload, with_laid, placed_counts, sourced_counts, TakesDatagram};
+ghost use Rattle.rtp_session.specs.Playing.{IsPrepared, IsSlipped, AreHeard, IsTaken, GivesUp};
 
 use crate::counts::Counts;
 use rtp_buffer::{Buffer, Octet, Owed, Pace, Slot, Store, Wish};
@@ -79,8 +79,7 @@ fn no_stream<const N: usize>() -> Stream<N> {
 impl<const N: usize> Incoming<N> {
     /// A stream before its first packet, which will wait `depth` ticks.
     pub fn home(payload_type: u8, is_framed: bool, depth: u32) -> Incoming<N>
-        ensures payload_type { result.payload_type ≡ payload_type }
-        ensures framed { result.is_framed ≡ is_framed }
+        ensures begins { BeginsSession payload_type is_framed depth result }
         ensures sound { IsSound result.stream }
     {
         let mut incoming = Incoming {
@@ -97,7 +96,7 @@ impl<const N: usize> Incoming<N> {
     // Counts a datagram that isn't taken.
     fn refuse(&mut self, outcome: Outcome) -> Outcome
         ensures outcome { result ≡ outcome }
-        ensures others { self.new ≡ record self.old { counts = self.new.counts } }
+        ensures value { self.new ≡ record self.old { counts = with_outcome outcome self.old.counts } }
     {
         let counts = &mut self.counts;
         match outcome {
@@ -115,28 +114,31 @@ impl<const N: usize> Incoming<N> {
         outcome
     }
 
-    // Why a packet with a payload of so many octets is never played, or Taken.
-    fn unplayable(&self, payload_type: u8, size: usize) -> Outcome
+    // Why a packet with a payload of so many octets is never played, if there is a reason.
+    fn unplayable(&self, payload_type: u8, size: usize) -> Option<Outcome>
         requires { 0 < N }
-        ensures payload_type { result ≡ Outcome.Taken → payload_type ≡ self.now.payload_type }
-        ensures size { result ≡ Outcome.Taken → size ≤ 50 * N }
+        ensures value { result ≡ refused_by self.now payload_type size }
+        ensures not_taken { result ≢ Some Outcome.Taken }
+        ensures payload_type { result ≡ None → payload_type ≡ self.now.payload_type }
+        ensures size { result ≡ None → size ≤ 50 * N }
     {
         if payload_type != self.payload_type {
-            Outcome::OtherType
+            Some(Outcome::OtherType)
         } else if size == 0 {
-            Outcome::Empty
+            Some(Outcome::Empty)
         } else if self.is_framed && size % N != 0 {
-            Outcome::OddSize
+            Some(Outcome::OddSize)
         } else if size > MOST_PERIODS * N {
-            Outcome::TooLong
+            Some(Outcome::TooLong)
         } else {
-            Outcome::Taken
+            None
         }
     }
 
     // A packet that isn't played has come, if it is of the source that is heard: it isn't missing as well.
     fn count_unplayed(&mut self, header: &Header)
         requires { IsSound self.old.stream }
+        ensures reception { self.new.stream.reception ≡ unplayed_by self.old.stream.sources.heard self.old.stream.reception header.now }
         ensures others { self.new ≡ record self.old { stream = record self.old.stream { reception = self.new.stream.reception } } }
         ensures sound { IsSound self.new.stream }
     {
@@ -144,6 +146,19 @@ impl<const N: usize> Incoming<N> {
             if source == header.source {
                 self.stream.reception.count(header.sequence_number, None);
             }
+        }
+    }
+
+    // The octet of its period at which a payload begins.
+    fn octet(&self, sample: u32) -> usize
+        requires { 0 < N }
+        ensures value { result ≡ octet_of N self.now.is_framed sample }
+        ensures within { result < N }
+    {
+        if self.is_framed {
+            0
+        } else {
+            sample as usize % N
         }
     }
 
@@ -160,15 +175,16 @@ impl<const N: usize> Incoming<N> {
         requires period { 0 < N }
         requires sound { IsSound self.old.stream }
         ensures taken { result ≡ Outcome.Taken }
+        ensures laid { LaysOver self.old.stream.buffer self.new.stream.buffer tick period (octet_of N self.old.is_framed sample) payload.now (behind == 0) }
+        ensures counts { self.new.counts ≡
+            with_laid self.old.stream.buffer tick period (octet_of N self.old.is_framed sample) (length payload.now) self.old.counts }
         ensures sound { IsSound self.new.stream }
-        ensures framed { self.new.is_framed ≡ self.old.is_framed }
-        ensures payload_type { self.new.payload_type ≡ self.old.payload_type }
+        ensures others { self.new ≡ record self.old {
+          counts = record self.old.counts { late = self.new.counts.late; doubled = self.new.counts.doubled };
+          stream = record self.old.stream { buffer = self.new.stream.buffer };
+        } }
     {
-        let part = if self.is_framed {
-            0
-        } else {
-            sample as usize % N
-        };
+        let part = self.octet(sample);
         let laid = lay(
             &mut self.stream.buffer,
             period,
@@ -184,7 +200,8 @@ impl<const N: usize> Incoming<N> {
 
     // Another source is heard: what came of the one before is added up.
     fn note_source(&mut self, before: &Reception, was_heard: bool)
-        ensures { self.new ≡ record self.old { counts = self.new.counts } }
+        ensures others { self.new ≡ record self.old { counts = self.new.counts } }
+        ensures counts { self.new.counts ≡ sourced_counts was_heard before.now self.old.counts }
     {
         if was_heard {
             let counts = &mut self.counts;
@@ -196,7 +213,9 @@ impl<const N: usize> Incoming<N> {
 
     // A packet belongs at a sample of its period, and the delay may have become longer for it.
     fn note_place(&mut self, sample: u32, shift: u32)
-        ensures { self.new ≡ record self.old { counts = self.new.counts } }
+        ensures others { self.new ≡ record self.old { counts = self.new.counts } }
+        ensures counts { self.new.counts ≡
+            placed_counts self.old.is_framed sample self.old.stream.track.offset shift self.old.stream.buffer.pace.shift self.old.counts }
     {
         let moved = shift.wrapping_sub(self.stream.buffer.pace.shift);
         self.counts.slips_back = self.counts.slips_back.wrapping_add(moved);
@@ -211,8 +230,14 @@ impl<const N: usize> Incoming<N> {
         ensures only { (IsHeard self.old.stream header.now tick → ⊥) → (result ≡ Arrival.OnProbation)
             × (self.new ≡ record self.old { stream = record self.old.stream { sources = record self.old.stream.sources { candidate = self.new.stream.sources.candidate } } }) }
         ensures refused { is_taken result ≡ false → PlaysTheSame self.old.stream self.new.stream }
+        ensures arrival { result ≡ arrival_in self.old.stream header.now samples tick behind }
+        ensures reception { self.new.stream.reception ≡ received_by (judged_in self.old.stream header.now tick).1 self.old.stream header.now tick behind }
+        ensures sources { self.new.stream.sources ≡ (judged_in self.old.stream header.now tick).0 }
+        ensures track { self.new.stream.track ≡ track_by (judged_in self.old.stream header.now tick).1 self.old.stream header.now samples tick behind }
+        ensures offset { self.new.stream.track.offset ≡ self.old.stream.track.offset }
+        ensures arrives { Arrives self.old.stream self.new.stream header.now result tick behind }
         ensures sound { IsSound self.new.stream }
-        ensures others { self.new ≡ record self.old { stream = self.new.stream } }
+        ensures others { self.new ≡ record self.old { stream = record self.old.stream { sources = self.new.stream.sources; reception = self.new.stream.reception; track = self.new.stream.track; heard_at = self.new.stream.heard_at; buffer = self.new.stream.buffer } } }
     {
         self.stream.arrive(header, samples, tick, behind)
     }
@@ -225,9 +250,16 @@ impl<const N: usize> Incoming<N> {
         requires sound { IsSound self.old.stream }
         ensures only { (IsHeard self.old.stream header.now tick → ⊥) → IsUntouched self.old self.new }
         ensures refused { result ≢ Outcome.Taken → PlaysTheSame self.old.stream self.new.stream }
+        ensures outcome { result ≡ outcome_by (arrival_in self.old.stream header.now (samples_of N (length payload.now)) tick behind) }
+        ensures refusal { result ≢ Outcome.Taken → self.new.counts ≡ with_outcome result self.old.counts }
+        ensures reception { self.new.stream.reception ≡ received_by (judged_in self.old.stream header.now tick).1 self.old.stream header.now tick behind }
+        ensures sources { self.new.stream.sources ≡ (judged_in self.old.stream header.now tick).0 }
+        ensures track { self.new.stream.track ≡
+            track_by (judged_in self.old.stream header.now tick).1 self.old.stream header.now (samples_of N (length payload.now)) tick behind }
+        ensures lays { result ≡ Outcome.Taken → LaysPayload self.old self.new header.now payload.now tick behind }
         ensures sound { IsSound self.new.stream }
-        ensures framed { self.new.is_framed ≡ self.old.is_framed }
-        ensures payload_type { self.new.payload_type ≡ self.old.payload_type }
+        ensures latest { result ≡ Outcome.Taken → self.new.stream.heard_at ≡ tick }
+        ensures settings { KeepsSettings self.old self.new }
     {
         let samples = (payload.len() * PERIOD_SAMPLES / N) as u32;
         let before = self.stream.reception;
@@ -259,15 +291,23 @@ impl<const N: usize> Incoming<N> {
         requires sound { IsSound self.old.stream }
         ensures only { (header.now.payload_type ≡ self.old.payload_type → IsHeard self.old.stream header.now tick → ⊥) → IsUntouched self.old self.new }
         ensures refused { result ≢ Outcome.Taken → PlaysTheSame self.old.stream self.new.stream }
+        ensures outcome { result ≡ packet_outcome self.old header.now (length payload.now) tick behind }
+        ensures refusal { result ≢ Outcome.Taken → self.new.counts ≡ with_outcome result self.old.counts }
+        ensures reception { self.new.stream.reception ≡ received_unless (refused_by self.old header.now.payload_type (length payload.now)) self.old.stream header.now tick behind }
+        ensures sources { self.new.stream.sources ≡
+            sources_unless (refused_by self.old header.now.payload_type (length payload.now)) self.old.stream header.now tick }
+        ensures track { self.new.stream.track ≡ track_unless (refused_by self.old header.now.payload_type (length payload.now)) self.old.stream header.now
+            (samples_of N (length payload.now)) tick behind }
+        ensures lays { result ≡ Outcome.Taken → LaysPayload self.old self.new header.now payload.now tick behind }
         ensures sound { IsSound self.new.stream }
-        ensures framed { self.new.is_framed ≡ self.old.is_framed }
-        ensures payload_type { self.new.payload_type ≡ self.old.payload_type }
+        ensures latest { result ≡ Outcome.Taken → self.new.stream.heard_at ≡ tick }
+        ensures settings { KeepsSettings self.old self.new }
     {
         match self.unplayable(header.payload_type, payload.len()) {
-            Outcome::Taken => self.take_packet(header, payload, tick, behind),
-            outcome => {
+            None => self.take_packet(header, payload, tick, behind),
+            Some(reason) => {
                 self.count_unplayed(header);
-                self.refuse(outcome)
+                self.refuse(reason)
             }
         }
     }
@@ -278,8 +318,12 @@ impl<const N: usize> Incoming<N> {
         requires most { N ≤ 160 }
         requires sound { IsSound self.old.stream }
 
-        // Unless it is a packet of the payload type whose source is heard, or none is heard yet, nothing changes but counts, who is on
-        // probation, and what came of the source that is heard.
+        // What becomes of it, by its octets, the stream and the tick; a payload that is taken is laid over the periods
+        // from its place on.
+        ensures takes { TakesDatagram self.old self.new datagram.now tick behind result }
+
+        // Unless it is a packet of the payload type whose source is heard, or none is heard yet, nothing changes but
+        // counts, who is on probation, and what came of the source that is heard.
         ensures only { (IsAdmitted self.old datagram.now tick → ⊥) → IsUntouched self.old self.new }
 
         // If it isn't taken, nothing changes of what is played.
@@ -300,19 +344,24 @@ impl<const N: usize> Incoming<N> {
 
     /// Before a period is played: when the next slip that is owed is made.
     pub fn prepare(&mut self, tick: u32) -> Wish
-        ensures { self.new ≡ record self.old { stream = record self.old.stream { buffer = self.new.stream.buffer } } }
+        ensures prepared { IsPrepared self.old.stream.buffer self.new.stream.buffer tick result }
+        ensures others { self.new ≡ record self.old { stream = record self.old.stream { buffer = self.new.stream.buffer } } }
     {
         self.stream.buffer.prepare(tick)
     }
 
     /// What would be played at a tick.
-    pub fn look(&self, tick: u32, filler: u8) -> [u8; N] {
+    pub fn look(&self, tick: u32, filler: u8) -> [u8; N]
+        ensures { AreHeard self.now.stream.buffer tick filler result }
+    {
         self.stream.buffer.look(tick, filler)
     }
 
     /// Makes a slip that is owed.
     pub fn slip(&mut self, tick: u32)
-        ensures { self.new ≡ record self.old { counts = self.new.counts; stream = record self.old.stream { buffer = self.new.stream.buffer } } }
+        ensures slipped { IsSlipped self.old.stream.buffer self.new.stream.buffer tick }
+        ensures counts { self.new.counts ≡ with_slip self.old.stream.buffer.pace.owed self.old.counts }
+        ensures others { self.new ≡ record self.old { counts = self.new.counts; stream = record self.old.stream { buffer = self.new.stream.buffer } } }
     {
         match self.stream.buffer.pace.owed {
             Owed::Nothing => {}
@@ -324,10 +373,8 @@ impl<const N: usize> Incoming<N> {
 
     /// The period that is played at a tick, if something of it came; `filler` for what didn't.
     pub fn take(&mut self, tick: u32, filler: u8) -> Option<[u8; N]>
+        ensures taken { IsTaken self.old.stream.buffer self.new.stream.buffer tick filler result }
         ensures others { self.new ≡ record self.old { stream = record self.old.stream { buffer = self.new.stream.buffer } } }
-        ensures none { result ≡ None → NothingWaits self.old.stream.buffer.store.slots (period_at self.old.stream.buffer.pace tick) }
-        ensures some { IfSome result (λ octets. (k : ℕ) → k < N →
-            slice_index octets k ≡ heard (place self.old.stream.buffer.store.slots (period_at self.old.stream.buffer.pace tick) k) filler) }
     {
         let period = self.stream.buffer.period_at(tick);
         if self.stream.buffer.store.waits(period) {
@@ -340,6 +387,7 @@ impl<const N: usize> Incoming<N> {
     /// The clock has given up so many periods.
     pub fn give_up(&mut self, periods: u32, tick: u32)
         requires { IsSound self.old.stream }
+        ensures given_up { GivesUp self.old.stream self.new.stream periods tick }
         ensures others { self.new ≡ record self.old { stream = self.new.stream } }
         ensures sound { IsSound self.new.stream }
     {

@@ -1,13 +1,18 @@
 //! The stream that goes out of a session.
 
 ghost use Rattle.std.specs.Prelude.{◌≡◌, ◌<◌, ◌≤◌, ◌+◌, ◌*◌, ◌%◌, ◌^◌, true, false, length};
-ghost use Rattle.rtp_packet.specs.Packet.{is_control};
-ghost use Rattle.rtp_session.specs.Outgoing.{header_at, sent, Carries};
+ghost use Rattle.rtp_packet.specs.Packet.{number_of_two, number_of_four};
+ghost use Rattle.rtp_session.specs.Outgoing.{outgoing_home, header_at, sent, left_out, gone_on, IsMedia, Carries};
 
 use rtp_packet::{Header, written_is_read};
 
 // The samples of a period of 20 ms, at 8,000 a second.
 const PERIOD_SAMPLES: u32 = 160;
+
+// The payload types that RTCP on the same port seems to have.
+const FIRST_CONTROL: u8 = 64;
+
+const LAST_CONTROL: u8 = 95;
 
 /// An outgoing stream: numbered by packets, stamped by periods, also where nothing is sent.
 #[derive(Clone, Copy)]
@@ -28,22 +33,42 @@ pub struct Outgoing {
     pub octets: u32,
 }
 
-// The number of four octets, the most significant first.
-fn number_of(a: u8, b: u8, c: u8, d: u8) -> u32 {
-    ((u32::from(a) * 256 + u32::from(b)) * 256 + u32::from(c)) * 256 + u32::from(d)
+// The number of two octets from one on, the most significant first.
+fn two(octets: &[u8], at: usize) -> u16
+    requires { at + 1 < length octets.now }
+    ensures { result ≡ number_of_two octets.now at }
+{
+    u16::from(octets[at]) * 256 + u16::from(octets[at + 1])
+}
+
+// The number of four.
+fn four(octets: &[u8], at: usize) -> u32
+    requires { at + 3 < length octets.now }
+    ensures { result ≡ number_of_four octets.now at }
+{
+    u32::from(two(octets, at)) * 65536 + u32::from(two(octets, at + 2))
+}
+
+/// Whether a payload type is one of media: it has seven bits, and isn't one that RTCP on the same port seems to have.
+pub fn is_media(payload_type: u8) -> bool
+    ensures yes { result ≡ true → IsMedia payload_type }
+    ensures no { result ≡ false → IsMedia payload_type → ⊥ }
+{
+    payload_type < FIRST_CONTROL || (payload_type > LAST_CONTROL && payload_type < 128)
 }
 
 impl Outgoing {
-    /// Before the first packet: number, time stamp and source are of random octets (RFC 3550, section 5.1).
-    pub fn home(payload_type: u8, random: &[u8; 10]) -> Outgoing
-        ensures { result.payload_type ≡ payload_type }
+    /// Before the first packet: number, time stamp and source are of ten random octets (RFC 3550, section 5.1).
+    pub fn home(payload_type: u8, random: &[u8]) -> Outgoing
+        requires { length random.now ≡ 10 }
+        ensures { result ≡ outgoing_home payload_type random.now }
     {
         Outgoing {
             payload_type,
             after_gap: true,
-            number: u16::from(random[0]) * 256 + u16::from(random[1]),
-            timestamp: number_of(random[2], random[3], random[4], random[5]),
-            source: number_of(random[6], random[7], random[8], random[9]),
+            number: two(random, 0),
+            timestamp: four(random, 2),
+            source: four(random, 6),
             packets: 0,
             octets: 0,
         }
@@ -66,8 +91,7 @@ impl Outgoing {
 
     /// Writes the datagram for the period at a tick.
     pub fn packet(&mut self, tick: u32, payload: &[u8], is_speech: bool, datagram: &mut [u8])
-        requires payload_type { self.old.payload_type < 128 }
-        requires media { is_control self.old.payload_type ≡ false }
+        requires media { IsMedia self.old.payload_type }
         requires period { length payload.now ≤ 160 }
         requires size { length datagram.old ≡ 12 + length payload.now }
         ensures carries { Carries datagram.new (header_at self.old tick is_speech) payload.now }
@@ -84,7 +108,7 @@ impl Outgoing {
 
     /// The clock has given up time: stamps go on as if these periods had passed.
     pub fn give_up(&mut self, periods: u32)
-        ensures { self.new ≡ record self.old { timestamp = (self.old.timestamp + periods * 160 % 2 ^ 32) % 2 ^ 32; after_gap = true } }
+        ensures { self.new ≡ gone_on periods self.old }
     {
         self.timestamp = self
             .timestamp
@@ -94,7 +118,7 @@ impl Outgoing {
 
     /// Nothing was sent in a period.
     pub fn leave_out(&mut self)
-        ensures { self.new ≡ record self.old { after_gap = true } }
+        ensures { self.new ≡ left_out self.old }
     {
         self.after_gap = true;
     }

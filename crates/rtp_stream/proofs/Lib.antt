@@ -1,3 +1,4 @@
 mod Pieces
 mod Distance
+mod Counted
 mod Past

@@ -1,10 +1,11 @@
 -- What was done with a store, while a payload is laid.
-use Rattle.std.proofs.Common.{◌≡◌, ℕ, zero, suc, ◌+◌, ◌*◌, ◌^◌, ◌<◌, ◌≤◌, List, ◌∷◌, length, refl, sym, ap, subst, ◌∙◌, arith, ◌⊎◌, inl, inr}
-use Rattle.std.specs.Prelude.{◌≢◌, Bool, true, false, if◌then◌else◌, ◌==◌, ◌||◌, ◌&&◌, slice_index_or, slice_range}
+use Rattle.std.proofs.Common.{◌≡◌, ℕ, zero, suc, ◌+◌, ◌-◌, ◌*◌, ◌^◌, ◌<◌, ◌≤◌, List, ◌∷◌, length, refl, sym, ap, subst, ◌∙◌, arith}
+use Rattle.std.specs.Prelude.{◌≢◌, Bool, true, false, if◌then◌else◌, ◌==◌, ◌||◌, ◌&&◌, slice_index_or, slice_range, Option, Some, None}
 use Rattle.rtp_buffer.specs.declared.octet.Octet.{Octet}
 use Rattle.rtp_buffer.specs.declared.octet.Octet.TheVariants.{Missing}
 use Rattle.rtp_buffer.specs.declared.slot.Slot.{Slot}
 use Rattle.rtp_buffer.specs.declared.pace.Pace.{Pace}
+use Rattle.rtp_buffer.specs.declared.buffer.Buffer.{Buffer}
 use Rattle.rtp_buffer.specs.declared.buffer.Outcome.{Outcome}
 use Rattle.rtp_buffer.specs.declared.buffer.Outcome.TheVariants.{Taken, Late, Doubled}
 use Rattle.rtp_buffer.specs.Octets.{came, with_octet, has_come}
@@ -13,8 +14,10 @@ use Rattle.rtp_buffer.specs.History.{Deed, Put, step, Stands}
 use Rattle.rtp_buffer.specs.Buffer.{AllKnown, newest_wait, seen}
 use Rattle.rtp_buffer.specs.Watch.{on}
 use Rattle.rtp_buffer.specs.Pace.{wait_of, is_late}
-use Rattle.rtp_stream.specs.Payload.{octets_before, start_of, octets_of, with_put, with_periods, told}
+use Rattle.rtp_stream.specs.Payload.{octets_before, start_of, octets_of, with_put, with_periods, count_of, period_outcome, pace_told, pace_laid}
+use Rattle.std.proofs.lemmas.Grind.{common_steps}
 use Rattle.rtp_stream.proofs.Pieces.{known_stays}
+use Rattle.rtp_stream.proofs.Counted.{stays_to, none_left}
 
 -- ---- a slot has octets of one period
 
@@ -102,58 +105,78 @@ with_next size pace tick first part payload n deeds slots s =
     let same : suc n ≡ n + 1 = omega arith in
     subst (λ (m : ℕ). Stands (with_periods size pace tick first part payload m deeds) slots) same s
 
-pub all_periods : {N : ℕ} → (size : ℕ) (pace : Pace) (tick first part : ℕ) (payload : List ℕ) (n : ℕ) (deeds : List Deed) (slots : List (Slot N)) → n ≤ 51 → 51 ≤ n →
+-- a period without octets isn't put
+not_put : (late : Bool) (octets : List ℕ) (deed : Deed) (deeds : List Deed) → length octets ≡ 0 → (if late || (length octets == 0) then deeds else deed ∷ deeds) ≡ deeds
+not_put true octets deed deeds e = refl
+not_put false octets deed deeds e = grind (arith, e)
+
+no_octets_of : (size part : ℕ) (payload : List ℕ) (m : ℕ) → count_of size part (length payload) m ≡ 0 → length (octets_of size part payload m) ≡ 0
+no_octets_of size part payload m e =
+    let short : length (octets_of size part payload m) ≤ count_of size part (length payload) m =
+    length-take-of (octets_before ((m + 1) * size) part (length payload)) (octets_before (m * size) part (length payload)) payload in
+    omega (arith, short, e)
+  where
+    length-take-of : (until from : ℕ) (xs : List ℕ) → length (slice_range xs from until) ≤ until - from
+    length-take-of until from xs = grind (arith, common_steps)
+
+pub all_periods : {N : ℕ} → (size : ℕ) (pace : Pace) (tick first part : ℕ) (payload : List ℕ) (n : ℕ) (deeds : List Deed) (slots : List (Slot N)) → n ≤ 51 →
+    octets_before (n * size) part (length payload) ≡ length payload →
     Stands (with_periods size pace tick first part payload n deeds) slots → Stands (with_periods size pace tick first part payload 51 deeds) slots
-all_periods size pace tick first part payload n deeds slots l r s =
-    let same : n ≡ 51 = omega (arith, l, r) in
-    subst (λ (m : ℕ). Stands (with_periods size pace tick first part payload m deeds) slots) same s
+all_periods size pace tick first part payload n deeds slots l e s =
+    subst (λ (all : List Deed). Stands all slots)
+    (sym (stays_to (λ m. with_periods size pace tick first part payload m deeds) n 51 l
+    (λ m r. not_put (is_late (wait_of pace (on first m) tick)) (octets_of size part payload m) _ _ (no_octets_of size part payload m (none_left n m size part (length payload) r e))))) s
 
 -- ---- what is told of the path
 
--- the pace after the periods so far: the first one told something, or none did
+-- the pace after the periods so far: the first one has told what it tells
 pub record Told (n : ℕ) (after_first : Pace) (old now : Pace) (old_newest newest : ℕ) : Type 0 where
   pub none_yet : n ≡ 0 → (now ≡ old) × (newest ≡ old_newest)
-  pub once : (now ≡ old) ⊎ (now ≡ after_first)
+  pub once : n ≢ 0 → now ≡ after_first
 
-pub told_once : (n first tick : ℕ) (watched : Bool) (old now new : Pace) (old_newest newest then_newest : ℕ) → first < 2 ^ 32 →
-    Told n (told old (wait_of old first tick) (newest_wait old old_newest tick) tick watched) old now old_newest newest →
-    (new ≡ now) ⊎ (new ≡ told now (wait_of now (on first n) tick) (newest_wait now newest tick) tick watched) → (n ≢ 0 → new ≡ now) →
-    Told (n + 1) (told old (wait_of old first tick) (newest_wait old old_newest tick) tick watched) old new old_newest then_newest
-told_once zero first tick watched old now new old_newest newest then_newest fits h at later = record {
+pub told_once : {N : ℕ} → (n first tick part length : ℕ) (watched : Bool) (initial : Buffer N) (outcome : Outcome) (now new : Pace) (newest then_newest : ℕ) → first < 2 ^ 32 →
+    period_outcome initial tick first part length n ≡ Some outcome →
+    Told n (pace_laid initial tick first part length watched) initial.pace now initial.newest newest →
+    new ≡ pace_told (Some outcome) now (wait_of now (on first n) tick) (newest_wait now newest tick) tick (watched && (n == 0)) → (n ≢ 0 → new ≡ now) →
+    Told (n + 1) (pace_laid initial tick first part length watched) initial.pace new initial.newest then_newest
+told_once zero first tick part length watched initial outcome now new newest then_newest fits is h at later = record {
   none_yet = λ e. absurd (omega (arith, e));
-  once = by_side at;
+  once = λ d. at
+      ∙ ap (λ (p : Pace). pace_told (Some outcome) p (wait_of p (on first 0) tick) (newest_wait p newest tick) tick (watched && true)) (h.none_yet refl).0
+      ∙ ap (λ (m : ℕ). pace_told (Some outcome) initial.pace (wait_of initial.pace (on first 0) tick) (newest_wait initial.pace m tick) tick (watched && true)) (h.none_yet refl).1
+      ∙ ap (λ (p : ℕ). pace_told (Some outcome) initial.pace (wait_of initial.pace p tick) (newest_wait initial.pace initial.newest tick) tick (watched && true)) same
+      ∙ ap (λ (w : Bool). pace_told (Some outcome) initial.pace (wait_of initial.pace first tick) (newest_wait initial.pace initial.newest tick) tick w) (and_true watched)
+      ∙ ap (λ (o : Option Outcome). pace_told o initial.pace (wait_of initial.pace first tick) (newest_wait initial.pace initial.newest tick) tick watched) (sym is);
 }
   where
     same : on first 0 ≡ first
     same = omega (arith, fits)
 
-    by_side : (new ≡ now) ⊎ (new ≡ told now (wait_of now (on first 0) tick) (newest_wait now newest tick) tick watched) →
-        (new ≡ old) ⊎ (new ≡ told old (wait_of old first tick) (newest_wait old old_newest tick) tick watched)
-    by_side (inl e) = inl (e ∙ (h.none_yet refl).0)
-    by_side (inr e) = inr (e
-        ∙ ap (λ (p : Pace). told p (wait_of p (on first 0) tick) (newest_wait p newest tick) tick watched) (h.none_yet refl).0
-        ∙ ap (λ (m : ℕ). told old (wait_of old (on first 0) tick) (newest_wait old m tick) tick watched) (h.none_yet refl).1
-        ∙ ap (λ (p : ℕ). told old (wait_of old p tick) (newest_wait old old_newest tick) tick watched) same)
-told_once (suc n) first tick watched old now new old_newest newest then_newest fits h at later = record {
+    and_true : (b : Bool) → (b && true) ≡ b
+    and_true true = refl
+    and_true false = refl
+told_once (suc n) first tick part length watched initial outcome now new newest then_newest fits is h at later = record {
   none_yet = λ e. absurd (omega (arith, e));
-  once = by_side h.once;
+  once = λ d. later (λ e. absurd (omega (arith, e))) ∙ h.once (λ e. absurd (omega (arith, e)));
 }
-  where
-    same : new ≡ now
-    same = later (λ e. absurd (omega (arith, e)))
 
-    by_side : (now ≡ old) ⊎ (now ≡ told old (wait_of old first tick) (newest_wait old old_newest tick) tick watched) →
-        (new ≡ old) ⊎ (new ≡ told old (wait_of old first tick) (newest_wait old old_newest tick) tick watched)
-    by_side (inl e) = inl (same ∙ e)
-    by_side (inr e) = inr (same ∙ e)
+-- all is told, also of an empty payload
+pub all_told : {N : ℕ} → (n first tick part length : ℕ) (watched : Bool) (initial : Buffer N) (now : Pace) (newest : ℕ) →
+    ((m : ℕ) → n ≤ m → period_outcome initial tick first part length m ≡ None) →
+    Told n (pace_laid initial tick first part length watched) initial.pace now initial.newest newest → now ≡ pace_laid initial tick first part length watched
+all_told zero first tick part length watched initial now newest none h =
+    (h.none_yet refl).0
+    ∙ ap (λ (o : Option Outcome). pace_told o initial.pace (wait_of initial.pace first tick) (newest_wait initial.pace initial.newest tick) tick watched)
+    (sym (none 0 (omega arith)))
+all_told (suc n) first tick part length watched initial now newest none h = h.once (λ e. absurd (omega (arith, e)))
 
 -- a later period tells nothing
 unwatched : (watched : Bool) (n : ℕ) → n ≢ 0 → (watched && (n == 0)) ≡ false
 unwatched true n d = grind (arith, d)
 unwatched false n d = refl
 
-pub later_is : (outcome : Outcome) (n wait : ℕ) (is_watched watched : Bool) (old new : Pace) → n ≢ 0 → watched ≡ (is_watched && (n == 0)) →
-    (outcome ≡ Taken → new ≡ seen old wait watched) → (outcome ≡ Late → watched ≡ false → new ≡ old) → (outcome ≡ Doubled → new ≡ old) → new ≡ old
-later_is Taken n wait is_watched watched old new d e taken late doubled = taken refl ∙ ap (λ (w : Bool). seen old wait w) (e ∙ unwatched is_watched n d)
-later_is Late n wait is_watched watched old new d e taken late doubled = late refl (e ∙ unwatched is_watched n d)
-later_is Doubled n wait is_watched watched old new d e taken late doubled = doubled refl
+pub later_is : (outcome : Outcome) (n wait tick : ℕ) (is_watched watched : Bool) (old new : Pace) → n ≢ 0 → watched ≡ (is_watched && (n == 0)) →
+    (outcome ≡ Taken → new ≡ seen old wait tick watched) → (outcome ≡ Late → watched ≡ false → new ≡ old) → (outcome ≡ Doubled → new ≡ old) → new ≡ old
+later_is Taken n wait tick is_watched watched old new d e taken late doubled = taken refl ∙ ap (λ (w : Bool). seen old wait tick w) (e ∙ unwatched is_watched n d)
+later_is Late n wait tick is_watched watched old new d e taken late doubled = late refl (e ∙ unwatched is_watched n d)
+later_is Doubled n wait tick is_watched watched old new d e taken late doubled = doubled refl

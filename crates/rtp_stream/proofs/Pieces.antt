@@ -1,13 +1,13 @@
 -- A payload, laid period by period.
 use Rattle.std.proofs.Common.{◌≡◌, ℕ, zero, suc, ◌+◌, ◌-◌, ◌*◌, ◌%◌, ◌^◌, ◌<◌, ◌≤◌, List, length, refl, sym, ap, subst, ◌∙◌, arith, drop, ◌⊎◌, inl, inr}
-use Rattle.std.specs.Prelude.{◌≢◌, Bool, true, false, if◌then◌else◌, nat_lt, min, ◌==◌, Option, Some, None, slice_index, slice_range}
+use Rattle.std.specs.Prelude.{◌≢◌, Bool, true, false, if◌then◌else◌, nat_lt, min, ◌==◌, ◌&&◌, ◌||◌, Option, Some, None, slice_index, slice_range}
 use Rattle.std.proofs.lemmas.List.{get_or-take, get_or-drop, length-take-le, length-drop}
 use Rattle.rtp_buffer.specs.declared.octet.Octet.{Octet}
 use Rattle.rtp_buffer.specs.declared.octet.Octet.TheVariants.{Missing, Held, Played}
 use Rattle.rtp_buffer.specs.Octets.{came, with_octet, has_come}
 use Rattle.rtp_buffer.specs.declared.buffer.Outcome.{Outcome}
 use Rattle.rtp_buffer.specs.declared.buffer.Outcome.TheVariants.{Taken, Late, Doubled}
-use Rattle.rtp_buffer.specs.Store.{IsNear}
+use Rattle.rtp_buffer.specs.Store.{slot_of}
 use Rattle.rtp_buffer.specs.Watch.{on, back}
 use Rattle.rtp_buffer.specs.Pace.{is_late}
 use Rattle.rtp_stream.specs.Payload.{octets_before, with_payload, comes_for}
@@ -139,28 +139,48 @@ no_piece wait octets m size part at start octet k p l a s e =
     by_side true = refl
     by_side false = with_none octet
 
--- ---- periods near one of a payload
+-- ---- periods and slots
 
-pub near_ahead : (first n other : ℕ) → first < 2 ^ 32 → other < 2 ^ 32 → n < 51 → back other first < 128 → back other first ≢ n → IsNear (on first n) other
-near_ahead first n other f o l d e = record {
-  fits = omega arith;
-  other_fits = omega (arith, o);
-  differs = λ same. e (omega (arith, f, o, l, same));
-  near = by_side (nat_lt n (back other first)) refl;
-}
+-- a period has the slot of the n-th one of a payload exactly if it is so many after the first, modulo 256
+pub same_slot : (first n other : ℕ) → first < 2 ^ 32 → other < 2 ^ 32 → n < 51 → (slot_of other == slot_of (on first n)) ≡ (back other first % 256 == n)
+same_slot first n other f o l = by_sides (slot_of other == slot_of (on first n)) (back other first % 256 == n) refl refl
   where
-    by_side : (b : Bool) → nat_lt n (back other first) ≡ b →
-        ((2 ^ 32 + other - on first n) % 2 ^ 32 ≤ 128) ⊎ ((2 ^ 32 + on first n - other) % 2 ^ 32 ≤ 128)
-    by_side true h = inl (let a : n < back other first = grind (arith, h) in omega (arith, a, f, o, l, d))
-    by_side false h = inr (let a : back other first ≤ n = grind (arith, h) in omega (arith, a, f, o, l, d))
+    by_sides : (b c : Bool) → (slot_of other == slot_of (on first n)) ≡ b → (back other first % 256 == n) ≡ c →
+        (slot_of other == slot_of (on first n)) ≡ (back other first % 256 == n)
+    by_sides true true e h = e ∙ sym h
+    by_sides false false e h = e ∙ sym h
+    by_sides true false e h =
+        let same : slot_of other ≡ slot_of (on first n) = grind (arith, e) in
+        let other_slot : back other first % 256 ≢ n = grind (arith, h) in
+        absurd (other_slot (omega (arith, f, o, l, same)))
+    by_sides false true e h =
+        let same : back other first % 256 ≡ n = grind (arith, h) in
+        let other_slot : slot_of other ≢ slot_of (on first n) = grind (arith, e) in
+        absurd (other_slot (omega (arith, f, o, l, same)))
 
-pub near_behind : (first n other : ℕ) → first < 2 ^ 32 → other < 2 ^ 32 → n < 51 → 0 < back first other → back first other ≤ 77 → IsNear (on first n) other
-near_behind first n other f o l a b = record {
-  fits = omega arith;
-  other_fits = omega (arith, o);
-  differs = λ same. absurd (omega (arith, f, o, l, a, b, same));
-  near = inr (omega (arith, f, o, l, a, b));
-}
+pub is_not_nth : (first n other : ℕ) → first < 2 ^ 32 → other < 2 ^ 32 → n < 51 → back other first ≢ n → other ≢ on first n
+is_not_nth first n other f o l d same = d (omega (arith, f, o, l, same))
+
+-- one up to 77 before the first has none of their slots
+pub not_behind : (first n other : ℕ) → first < 2 ^ 32 → other < 2 ^ 32 → n < 51 → 0 < back first other → back first other ≤ 77 → other ≢ on first n
+not_behind first n other f o l a b same = absurd (omega (arith, f, o, l, a, b, same))
+
+pub slot_not_behind : (first n other : ℕ) → first < 2 ^ 32 → other < 2 ^ 32 → n < 51 → 0 < back first other → back first other ≤ 77 →
+    (slot_of other == slot_of (on first n)) ≡ false
+slot_not_behind first n other f o l a b = by_side (slot_of other == slot_of (on first n)) refl
+  where
+    by_side : (c : Bool) → (slot_of other == slot_of (on first n)) ≡ c → (slot_of other == slot_of (on first n)) ≡ false
+    by_side false e = e
+    by_side true e =
+        let same : slot_of other ≡ slot_of (on first n) = grind (arith, e) in
+        absurd (omega (arith, f, o, l, a, b, same))
+
+pub kept : (same taken : Bool) (new old : Octet) → same ≡ false → new ≡ (if same && taken then Missing else old) → new ≡ old
+kept false taken new old e h = h
+kept true taken new old e h = absurd (grind (arith, e))
+
+pub same_taken : (same taken other : Bool) (new old : Octet) → taken ≡ other → new ≡ (if same && taken then Missing else old) → new ≡ (if same && other then Missing else old)
+same_taken same taken other new old e h = subst (λ (t : Bool). new ≡ (if same && t then Missing else old)) e h
 
 -- a period that is n after another
 pub is_nth : (first n period : ℕ) → first < 2 ^ 32 → period < 2 ^ 32 → back period first ≡ n → period ≡ on first n
@@ -176,33 +196,73 @@ starts (suc n) size part start h = inr (omega arith, grind (arith, h))
 pub one_more : (n size : ℕ) → (n + 1) * size ≡ n * size + size
 one_more n size = omega arith
 
--- another place than that of the n-th period
-elsewhere : (d n : ℕ) (laid initial old new : Octet) → new ≡ old → old ≡ (if nat_lt d n then laid else initial) → d ≢ n →
-    new ≡ (if nat_lt d (n + 1) then laid else initial)
-elsewhere d n laid initial old new e h other = grind (arith, e, h, other)
+less_or_equal : (d n : ℕ) → nat_lt d (n + 1) ≡ (nat_lt d n || (d == n))
+less_or_equal d n = by_side (nat_lt d n) (d == n) refl refl
+  where
+    by_side : (b c : Bool) → nat_lt d n ≡ b → (d == n) ≡ c → nat_lt d (n + 1) ≡ (nat_lt d n || (d == n))
+    by_side b c e h = grind (arith, e, h)
 
-here : (d n : ℕ) (laid initial new : Octet) → d ≡ n → new ≡ laid → new ≡ (if nat_lt d (n + 1) then laid else initial)
-here d n laid initial new e h = grind (arith, e, h)
+less_or_other : (d n : ℕ) → d ≢ n → nat_lt d (n + 1) ≡ nat_lt d n
+less_or_other d n h = grind (arith, h)
 
-untouched : (d n : ℕ) (laid initial old : Octet) → d ≡ n → old ≡ (if nat_lt d n then laid else initial) → old ≡ initial
-untouched d n laid initial old e h = grind (arith, e, h)
+-- a place `d` periods after the first, once the first n are laid
+abbrev pub so_far : ℕ → ℕ → Bool → Octet → Octet → Octet
+so_far d n taken laid initial =
+    if nat_lt d 256 then (if nat_lt d n then laid else initial) else if nat_lt (d % 256) n && taken then Missing else initial
+
+here : (d n : ℕ) (taken : Bool) (laid initial new : Octet) → d ≡ n → n < 51 → new ≡ laid → new ≡ so_far d (n + 1) taken laid initial
+here d n taken laid initial new e l h =
+    let near : nat_lt d 256 ≡ true = grind (arith, e, l) in
+    let within : nat_lt d (n + 1) ≡ true = grind (arith, e) in
+    rw (near, within) h
+
+untouched : (d n : ℕ) (taken : Bool) (laid initial old : Octet) → d ≡ n → n < 51 → old ≡ so_far d n taken laid initial → old ≡ initial
+untouched d n taken laid initial old e l h =
+    let near : nat_lt d 256 ≡ true = grind (arith, e, l) in
+    let without : nat_lt d n ≡ false = grind (arith, e) in
+    subst (λ (x : Octet). old ≡ x) (rw (near, without) refl) h
+
+-- another place than that of the n-th period: it is forgotten if it has that one's slot
+elsewhere : (d n : ℕ) (taken same : Bool) (laid initial old new : Octet) → d ≢ n → n < 51 → same ≡ (d % 256 == n) →
+    new ≡ (if same && taken then Missing else old) → old ≡ so_far d n taken laid initial → new ≡ so_far d (n + 1) taken laid initial
+elsewhere d n taken same laid initial old new other l e forgotten h = by_side (nat_lt d 256) refl
+  where
+    more : nat_lt (d % 256) (n + 1) ≡ (nat_lt (d % 256) n || (d % 256 == n))
+    more = less_or_equal (d % 256) n
+
+    by_side : (b : Bool) → nat_lt d 256 ≡ b → new ≡ so_far d (n + 1) taken laid initial
+    by_side true near =
+        let whole : d % 256 ≡ d = let n : d < 256 = grind (arith, near) in omega (arith, n) in
+        let not_same : same ≡ false = e ∙ grind (arith, whole, other) in
+        let still : nat_lt d (n + 1) ≡ nat_lt d n = less_or_other d n other in
+        kept same taken new old not_same forgotten ∙ h ∙ rw (near, still) refl
+    by_side false near = by_sides same (nat_lt (d % 256) n) taken refl refl refl
+      where
+        by_sides : (s b t : Bool) → same ≡ s → nat_lt (d % 256) n ≡ b → taken ≡ t → new ≡ so_far d (n + 1) taken laid initial
+        by_sides s b t es eb et = grind (arith, near, forgotten, h, e, more, es, eb, et)
 
 -- what is known of the places after a payload's first n periods, and after one more
-pub record Laying (size first part n : ℕ) (payload : List ℕ) (wait : ℕ → ℕ) (initial now : ℕ → ℕ → Octet) : Type 0 where
-  pub laid : (period k : ℕ) → period < 2 ^ 32 → back period first < 128 → k < size →
-      now period k ≡ (if nat_lt (back period first) n then with_payload (wait period) (initial period k) (comes_for size first part payload period k) else initial period k)
+pub record Laying (size first part n : ℕ) (payload : List ℕ) (wait : ℕ → ℕ) (taken : ℕ → Bool) (initial now : ℕ → ℕ → Octet) : Type 0 where
+  pub laid : (period k : ℕ) → period < 2 ^ 32 → k < size → now period k ≡
+      so_far (back period first) n (taken (back period first % 256)) (with_payload (wait period) (initial period k) (comes_for size first part payload period k)) (initial period k)
 
-pub record Piece (size first part n : ℕ) (payload : List ℕ) (wait : ℕ → ℕ) (old new : ℕ → ℕ → Octet) : Type 0 where
+pub record Piece (size first part n : ℕ) (payload : List ℕ) (wait : ℕ → ℕ) (taken : Bool) (old new : ℕ → ℕ → Octet) : Type 0 where
   pub first_fits : first < 2 ^ 32
   pub soon : n < 51
   pub own : (k : ℕ) → k < size → new (on first n) k ≡ with_payload (wait (on first n)) (old (on first n) k) (came part payload (length payload) (n * size + k))
-  pub others : (other k : ℕ) → IsNear (on first n) other → new other k ≡ old other k
+  pub others : (other k : ℕ) → other ≢ on first n → new other k ≡ (if (slot_of other == slot_of (on first n)) && taken then Missing else old other k)
 
-pub laid_then : (size first part n : ℕ) (payload : List ℕ) (wait : ℕ → ℕ) (initial old new : ℕ → ℕ → Octet) →
-    Piece size first part n payload wait old new → Laying size first part n payload wait initial old →
-    Laying size first part (n + 1) payload wait initial new
-laid_then size first part n payload wait initial old new piece before = record {
-  laid = λ period k fits near inside. by_side (back period first == n) period k refl fits near inside;
+-- the n-th period is as it was
+pub nth_untouched : (size first part n : ℕ) (payload : List ℕ) (wait : ℕ → ℕ) (taken : ℕ → Bool) (initial now : ℕ → ℕ → Octet) → first < 2 ^ 32 → n < 51 →
+    Laying size first part n payload wait taken initial now → (k : ℕ) → k < size → now (on first n) k ≡ initial (on first n) k
+nth_untouched size first part n payload wait taken initial now f l h k inside =
+    untouched (back (on first n) first) n (taken (back (on first n) first % 256)) _ _ _ (omega (arith, f, l)) l (h.laid (on first n) k (omega arith) inside)
+
+pub laid_then : (size first part n : ℕ) (payload : List ℕ) (wait : ℕ → ℕ) (taken : ℕ → Bool) (initial old new : ℕ → ℕ → Octet) →
+    Piece size first part n payload wait (taken n) old new → Laying size first part n payload wait taken initial old →
+    Laying size first part (n + 1) payload wait taken initial new
+laid_then size first part n payload wait taken initial old new piece before = record {
+  laid = λ period k fits inside. by_side (back period first == n) period k refl fits inside;
 }
   where
     at_place : (period k : ℕ) → period < 2 ^ 32 → back period first ≡ n → k < size → old period k ≡ initial period k →
@@ -215,57 +275,97 @@ laid_then size first part n payload wait initial old new piece before = record {
         ∙ ap (λ (o : Octet). with_payload (wait period) o (came part payload (length payload) (n * size + k))) same
         ∙ ap (λ (d : ℕ). with_payload (wait period) (initial period k) (came part payload (length payload) (d * size + k))) (sym e)
 
-    by_side : (b : Bool) → (period : ℕ) → (k : ℕ) → (back period first == n) ≡ b → period < 2 ^ 32 → back period first < 128 → k < size →
-        new period k ≡ (if nat_lt (back period first) (n + 1) then with_payload (wait period) (initial period k) (comes_for size first part payload period k) else initial period k)
-    by_side true period k h fits near inside =
+    of_slot : (period : ℕ) (same : Bool) → same ≡ (back period first % 256 == n) → (o old : Octet) → o ≡ (if same && taken n then Missing else old) →
+        o ≡ (if same && taken (back period first % 256) then Missing else old)
+    of_slot period true e o old h =
+        let at : back period first % 256 ≡ n = grind (arith, e) in
+        h ∙ ap (λ (m : ℕ). if taken m then Missing else old) (sym at)
+    of_slot period false e o old h = h
+
+    by_side : (b : Bool) → (period : ℕ) → (k : ℕ) → (back period first == n) ≡ b → period < 2 ^ 32 → k < size → new period k ≡
+        so_far (back period first) (n + 1) (taken (back period first % 256)) (with_payload (wait period) (initial period k) (comes_for size first part payload period k)) (initial period k)
+    by_side true period k h fits inside =
         let e : back period first ≡ n = grind (arith, h) in
-        let was = before.laid period k fits near inside in
-        here (back period first) n (with_payload (wait period) (initial period k) (comes_for size first part payload period k)) (initial period k) (new period k) e
-        (at_place period k fits e inside (untouched (back period first) n _ _ _ e was))
-    by_side false period k h fits near inside =
+        let was = before.laid period k fits inside in
+        here (back period first) n _ _ _ _ e piece.soon
+        (at_place period k fits e inside (untouched (back period first) n _ _ _ _ e piece.soon was))
+    by_side false period k h fits inside =
         let ne : back period first ≢ n = grind (arith, h) in
-        elsewhere (back period first) n (with_payload (wait period) (initial period k) (comes_for size first part payload period k)) (initial period k) (old period k) (new period k)
-        (piece.others period k (near_ahead first n period piece.first_fits fits piece.soon near ne)) (before.laid period k fits near inside) ne
+        let slot = same_slot first n period piece.first_fits fits piece.soon in
+        elsewhere (back period first) n (taken (back period first % 256)) (slot_of period == slot_of (on first n)) _ _ (old period k) _ ne piece.soon slot
+        (of_slot period (slot_of period == slot_of (on first n)) slot _ _ (piece.others period k (is_not_nth first n period piece.first_fits fits piece.soon ne)))
+        (before.laid period k fits inside)
 
 -- ---- all periods
 
-beyond : (e size : ℕ) → 51 * size ≤ (51 + e) * size
-beyond e size = omega arith
-
-far_on : (d size : ℕ) → 51 ≤ d → 51 * size ≤ d * size
-far_on d size l =
-    let same : 51 + (d - 51) ≡ d = omega (arith, l) in
-    subst (λ (x : ℕ). 51 * size ≤ x * size) same (beyond (d - 51) size)
-
--- a payload of at most 50 periods ends in its first 51
-pub all_laid : (size first part n : ℕ) (payload : List ℕ) (wait : ℕ → ℕ) (initial now : ℕ → ℕ → Octet) → part < size → length payload ≤ 50 * size → 51 ≤ n →
-    Laying size first part n payload wait initial now → (period k : ℕ) → period < 2 ^ 32 → back period first < 128 → k < size →
-    now period k ≡ with_payload (wait period) (initial period k) (comes_for size first part payload period k)
-all_laid size first part n payload wait initial now p whole end h period k fits near inside = by_side (nat_lt (back period first) n) refl
+-- once all octets are laid, none comes for a later period
+pub none_later : (size part n d k : ℕ) (payload : List ℕ) → n ≤ d → octets_before (n * size) part (length payload) ≡ length payload →
+    came part payload (length payload) (d * size + k) ≡ None
+none_later size part n d k payload l e =
+    let split : n * size + (d - n) * size ≡ d * size = split_at in
+    by_side (nat_lt (d * size + k) part) refl split
   where
+    again : (j : ℕ) → n * size + j * size ≡ (n + j) * size
+    again j = omega arith
+
+    split_at : n * size + (d - n) * size ≡ d * size
+    split_at =
+        let same : n + (d - n) ≡ d = omega (arith, l) in
+        again (d - n) ∙ ap (λ (x : ℕ). x * size) same
+
+    by_side : (b : Bool) → nat_lt (d * size + k) part ≡ b → n * size + (d - n) * size ≡ d * size → came part payload (length payload) (d * size + k) ≡ None
+    by_side true before split = came_before payload part (length payload) (d * size + k) (grind (arith, before))
+    by_side false before split =
+        let b : part ≤ d * size + k = grind (arith, before) in
+        came_after payload part (length payload) (d * size + k) (omega (arith, b, e, split))
+
+-- so the places are those after the whole payload
+pub all_laid : (size first part n : ℕ) (payload : List ℕ) (wait : ℕ → ℕ) (taken : ℕ → Bool) (initial now : ℕ → ℕ → Octet) →
+    octets_before (n * size) part (length payload) ≡ length payload → ((m : ℕ) → n ≤ m → taken m ≡ false) →
+    Laying size first part n payload wait taken initial now → (period k : ℕ) → period < 2 ^ 32 → k < size → now period k ≡
+    (if nat_lt (back period first) 256 then with_payload (wait period) (initial period k) (comes_for size first part payload period k)
+    else if taken (back period first % 256) then Missing else initial period k)
+all_laid size first part n payload wait taken initial now whole none h period k fits inside =
+    by_sides (nat_lt (back period first) 256) (nat_lt (back period first) n) (nat_lt (back period first % 256) n) refl refl refl
+  where
+    d : ℕ
+    d = back period first
+
     laid : Octet
     laid = with_payload (wait period) (initial period k) (comes_for size first part payload period k)
 
-    within : (d : ℕ) → nat_lt d n ≡ true → now period k ≡ (if nat_lt d n then laid else initial period k) → now period k ≡ laid
-    within d e was = grind (arith, e, was)
+    stays : (b : Bool) (octet : Octet) → octet ≡ (if b then octet else with_octet octet None)
+    stays true octet = refl
+    stays false octet = sym (with_none octet)
 
-    without : (d : ℕ) → nat_lt d n ≡ false → now period k ≡ (if nat_lt d n then laid else initial period k) → now period k ≡ initial period k
-    without d e was = grind (arith, e, was)
+    later : nat_lt (back period first) n ≡ false → initial period k ≡ with_payload (wait period) (initial period k) (comes_for size first part payload period k)
+    later e =
+        let l : n ≤ back period first = grind (arith, e) in
+        stays (is_late (wait period)) (initial period k)
+        ∙ ap (with_payload (wait period) (initial period k)) (sym (none_later size part n (back period first) k payload l whole))
 
-    kept : (b : Bool) (octet : Octet) → octet ≡ (if b then octet else with_octet octet None)
-    kept true octet = refl
-    kept false octet = sym (with_none octet)
+    not_taken : nat_lt (back period first % 256) n ≡ false → taken (back period first % 256) ≡ false
+    not_taken e = let l : n ≤ back period first % 256 = grind (arith, e) in none (back period first % 256) l
 
-    by_side : (b : Bool) → nat_lt (back period first) n ≡ b → now period k ≡ laid
-    by_side true e = within (back period first) e (h.laid period k fits near inside)
-    by_side false e =
-        let d : 51 ≤ back period first = grind (arith, e, end) in
-        let on : 51 * size ≤ back period first * size = far_on (back period first) size d in
-        let none : comes_for size first part payload period k ≡ None =
-        came_after payload part (length payload) (back period first * size + k) (omega (arith, on, p, whole)) in
-        without (back period first) e (h.laid period k fits near inside)
-        ∙ kept (is_late (wait period)) (initial period k)
-        ∙ ap (with_payload (wait period) (initial period k)) (sym none)
+    by_sides : (b c e : Bool) → nat_lt (back period first) 256 ≡ b → nat_lt (back period first) n ≡ c → nat_lt (back period first % 256) n ≡ e → now period k ≡
+        (if nat_lt (back period first) 256 then with_payload (wait period) (initial period k) (comes_for size first part payload period k)
+        else if taken (back period first % 256) then Missing else initial period k)
+    by_sides true true e near within f = h.laid period k fits inside ∙ rw (near, within) refl
+    by_sides true false e near within f = h.laid period k fits inside ∙ rw (near, within) (later within)
+    by_sides false c true near within f = h.laid period k fits inside ∙ rw (near, f) refl
+    by_sides false c false near within f = h.laid period k fits inside ∙ rw (near, f, not_taken f) refl
+
+-- of those within 128 from the first one on
+pub within_128 : (d : ℕ) (laid other now : Octet) → d < 128 → now ≡ (if nat_lt d 256 then laid else other) → now ≡ laid
+within_128 d laid other now l h =
+    let near : nat_lt d 256 ≡ true = grind (arith, l) in
+    subst (λ (o : Octet). now ≡ o) (rw near refl) h
+
+-- a payload of at most 50 periods ends in its first 51
+pub all_in_51 : (n size part length : ℕ) → part < size → length ≤ 50 * size → n ≤ 51 → 51 ≤ n → octets_before (n * size) part length ≡ length
+all_in_51 n size part length p l most least =
+    let same : n ≡ 51 = omega (arith, most, least) in
+    subst (λ (x : ℕ). octets_before (x * size) part length ≡ length) (sym same) (omega (arith, p, l))
 
 -- ---- paces of one shift
 

@@ -1,5 +1,5 @@
--- Where the packets of a stream belong: time stamps count samples (RFC 3550, section 5.1), and a period has 160. After the greatest time stamp or period
--- comes 0.
+-- Where the packets of a stream belong: time stamps count samples (RFC 3550, section 5.1), and a period has 160. After
+-- the greatest time stamp or period comes 0.
 use Rattle.std.specs.Prelude.{ℕ, ◌+◌, ◌-◌, ◌*◌, ◌/◌, ◌%◌, ◌^◌, Bool, ◌&&◌, if◌then◌else◌, nat_lt}
 use Rattle.rtp_buffer.specs.Watch.{on, back}
 use Rattle.rtp_stream.specs.declared.place.Place.{Place}

@@ -1,4 +1,5 @@
--- Where a packet of the source that is heard belongs, or why it isn't taken (this project's profile). Periods, ticks and waits are numbers of 32 bits.
+-- Where a packet of the source that is heard belongs, or why it isn't taken (this project's profile). Periods, ticks
+-- and waits are numbers of 32 bits.
 use Rattle.std.specs.Prelude.{◌≡◌, ℕ, min, ◌+◌, ◌-◌, ◌*◌, ◌%◌, ◌^◌, Bool, true, false, not, ◌&&◌, ◌||◌, if◌then◌else◌, ◌==◌, nat_le, nat_lt, Option, Some, None}
 use Rattle.rtp_packet.specs.declared.header.Header.{Header}
 use Rattle.rtp_buffer.specs.declared.pace.Pace.{Pace}
@@ -27,12 +28,16 @@ use Rattle.rtp_stream.specs.Places.{period_samples, place_of, is_newer}
 abbrev pub limit : ℕ
 limit = 50
 
+-- a stream's first packet waits so many ticks at most, half a second
+abbrev pub most_depth : ℕ
+most_depth = 25
+
 -- a source that has brought nothing for so many ticks beyond the depth is still
 abbrev pub still : ℕ
 still = 2
 
--- A stream begins with a packet of this time stamp: it belongs to period 0. A packet of frames belongs to the nearest period, and so begins half a period
--- in, the offset.
+-- A stream begins with a packet of this time stamp: it belongs to period 0. A packet of frames belongs to the nearest
+-- period, and so begins half a period in, the offset.
 abbrev pub track_home : ℕ → ℕ → Track
 track_home offset timestamp = record {
   offset = offset;
@@ -41,12 +46,17 @@ track_home offset timestamp = record {
   given_up = record { periods = 0; at = 0 };
 }
 
+-- further away than a second, and than the tick is behind
+abbrev pub is_far : ℕ → ℕ → Bool
+is_far wait behind = nat_lt (2 * limit + behind) (on wait limit)
+
 -- ---- time that was given up
 
--- Packets of time that the clock has given up may still come for a second, up to the first one that isn't late.
-abbrev pub still_given_up : GivenUp → ℕ → ℕ → GivenUp
-still_given_up given_up wait tick =
-    if not (is_late wait) || nat_le limit (back tick given_up.at) then record given_up { periods = 0 } else given_up
+-- Packets of time that the clock has given up may still come for a second, up to the first one that is neither late nor
+-- far away.
+abbrev pub still_given_up : GivenUp → ℕ → ℕ → ℕ → GivenUp
+still_given_up given_up wait tick behind =
+    if (not (is_late wait) && not (is_far wait behind)) || nat_le limit (back tick given_up.at) then record given_up { periods = 0 } else given_up
 
 -- the clock gives up so many periods more, at a tick
 abbrev pub track_given_up : Track → ℕ → ℕ → Track
@@ -57,10 +67,6 @@ is_given_up periods wait = nat_lt 0 periods && (is_late wait && nat_le (back 0 w
 
 -- ---- a jump of the time stamps
 
--- Further away than a second, and than the tick is behind.
-abbrev pub is_far : ℕ → ℕ → Bool
-is_far wait behind = nat_lt (2 * limit + behind) (on wait limit)
-
 -- the packet that follows one of so many samples
 abbrev pub next_of : Header → ℕ → Next
 next_of header samples = record { number = (header.sequence_number + 1) % 2 ^ 16; timestamp = on header.timestamp samples }
@@ -69,7 +75,8 @@ abbrev pub is_next : Option Next → Header → Bool
 is_next None header = false
 is_next (Some next) header = (next.number == header.sequence_number) && (next.timestamp == header.timestamp)
 
--- **A jump is believed if the very next packet follows it,** in number and time stamp (as A.1 of RFC 3550 does with numbers): the stream begins anew.
+-- **A jump is believed if the very next packet follows it,** in number and time stamp (as A.1 of RFC 3550 does with
+-- numbers): the stream begins anew.
 abbrev pub placed_far : Track → Header → ℕ → Track × Placed
 placed_far track header samples =
     if is_next track.jump header then (track_home track.offset header.timestamp, Jump)
@@ -96,7 +103,7 @@ abbrev pub placed : Track → Pace → Header → ℕ → ℕ → ℕ → Track 
 placed track pace header samples tick behind =
     let place = place_of track.newest header.timestamp in
     let wait = wait_of pace place.period tick in
-    placed_at (record track { given_up = still_given_up track.given_up wait tick }) header samples place wait behind
+    placed_at (record track { given_up = still_given_up track.given_up wait tick behind }) header samples place wait behind
 
 -- the pace follows a packet that is newer than all before
 abbrev pub pace_after : Track → Pace → ℕ → ℕ → Pace
@@ -105,7 +112,7 @@ pace_after track pace timestamp tick =
 
 -- ---- the whole stream
 
--- whether nothing came for two ticks more than the depth, and all that came is played
+-- whether no packet was taken for two ticks more than the depth, and all that was taken is played
 abbrev pub is_still : ℕ → ℕ → Pace → ℕ → ℕ → Bool
 is_still depth heard_at pace newest tick = nat_lt (depth + still) (back tick heard_at) && is_late (wait_of pace newest tick)
 
@@ -133,7 +140,7 @@ is_taken IsFar = false
 -- what a packet's source is to a stream, and where its packet belongs if it is the one that is heard
 abbrev pub judged_in : {N : ℕ} → Stream N → Header → ℕ → Sources × Verdict
 judged_in stream header tick =
-    judged stream.sources header.source header.sequence_number (is_still stream.depth stream.heard_at stream.buffer.pace stream.buffer.newest tick)
+    judged stream.sources header.source header.sequence_number tick (is_still stream.depth stream.heard_at stream.buffer.pace stream.buffer.newest tick)
 
 abbrev pub placed_in : {N : ℕ} → Stream N → Header → ℕ → ℕ → ℕ → Track × Placed
 placed_in stream header samples tick behind = placed stream.track stream.buffer.pace header samples tick behind

@@ -1,7 +1,10 @@
 //! Whose packets are taken.
 
 ghost use Rattle.std.specs.Prelude.{◌≡◌};
-ghost use Rattle.rtp_stream.specs.Sources.{sources_home, hearing, brings_the_next, judged_other, judged};
+ghost use Rattle.rtp_stream.specs.Sources.{sources_home, hearing, brings_the_next, begun, candidate_after, judged_other, judged};
+
+// Ticks for which a source on probation keeps its place.
+const PROBATION: u32 = 5;
 
 /// A source on probation.
 #[derive(Clone, Copy)]
@@ -10,6 +13,21 @@ pub struct Candidate {
     pub source: u32,
     /// The sequence number that it must bring next.
     pub number: u16,
+    /// The tick at which its probation began.
+    pub since: u32,
+}
+
+impl Candidate {
+    // Its probation begins with a packet of this number.
+    fn begin(source: u32, number: u16, tick: u32) -> Candidate
+        ensures { result ≡ begun source number tick }
+    {
+        Candidate {
+            source,
+            number: number.wrapping_add(1),
+            since: tick,
+        }
+    }
 }
 
 /// The source that is heard, and the one on probation.
@@ -42,6 +60,20 @@ fn brings_the_next(candidate: Option<Candidate>, source: u32, number: u16) -> bo
     }
 }
 
+// Who is on probation after a packet of a source that isn't heard.
+fn candidate_after(candidate: Option<Candidate>, source: u32, number: u16, tick: u32) -> Candidate
+    ensures { result ≡ candidate_after candidate source number tick }
+{
+    match candidate {
+        Some(candidate) if candidate.source == source => Candidate {
+            number: number.wrapping_add(1),
+            ..candidate
+        },
+        Some(candidate) if tick.wrapping_sub(candidate.since) < PROBATION => candidate,
+        _ => Candidate::begin(source, number, tick),
+    }
+}
+
 impl Sources {
     /// No source is heard yet.
     pub fn home() -> Sources
@@ -54,8 +86,8 @@ impl Sources {
     }
 
     // Another source than the one that is heard brings a packet.
-    fn judge_other(&mut self, source: u32, number: u16, is_still: bool) -> Verdict
-        ensures value { (self.new, result) ≡ judged_other self.old source number is_still }
+    fn judge_other(&mut self, source: u32, number: u16, tick: u32, is_still: bool) -> Verdict
+        ensures value { (self.new, result) ≡ judged_other self.old source number tick is_still }
     {
         if brings_the_next(self.candidate, source, number) && is_still {
             *self = Sources {
@@ -64,17 +96,14 @@ impl Sources {
             };
             return Verdict::Begins;
         }
-        self.candidate = Some(Candidate {
-            source,
-            number: number.wrapping_add(1),
-        });
+        self.candidate = Some(candidate_after(self.candidate, source, number, tick));
         Verdict::OnProbation
     }
 
     /// Judges a packet by its source and sequence number. `is_still`: the source that is heard has brought nothing for
     /// a while, and all that it brought is played.
-    pub fn judge(&mut self, source: u32, number: u16, is_still: bool) -> Verdict
-        ensures value { (self.new, result) ≡ judged self.old source number is_still }
+    pub fn judge(&mut self, source: u32, number: u16, tick: u32, is_still: bool) -> Verdict
+        ensures value { (self.new, result) ≡ judged self.old source number tick is_still }
     {
         match self.heard {
             None => {
@@ -85,7 +114,7 @@ impl Sources {
                 Verdict::Begins
             }
             Some(present) if present == source => Verdict::Heard,
-            Some(_) => self.judge_other(source, number, is_still),
+            Some(_) => self.judge_other(source, number, tick, is_still),
         }
     }
 }

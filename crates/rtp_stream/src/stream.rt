@@ -1,7 +1,8 @@
 //! One incoming stream with its jitter buffer.
 
-ghost use Rattle.std.specs.Prelude.{◌≡◌, ◌≢◌, ◌<◌, ◌≤◌, ℕ, List, ◌∷◌, if◌then◌else◌, false};
+ghost use Rattle.std.specs.Prelude.{◌≡◌, ◌≢◌, ◌<◌, ◌≤◌, ℕ, List, ◌∷◌, if◌then◌else◌, false, min};
 ghost use Rattle.rtp_packet.specs.Reception.{most_jitter, reception_home, counted};
+ghost use Rattle.rtp_buffer.specs.Octets.{after_leaving_out};
 ghost use Rattle.rtp_buffer.specs.Store.{place, is_before};
 ghost use Rattle.rtp_buffer.specs.Buffer.{period_at};
 ghost use Rattle.rtp_buffer.specs.History.{Deed, LeaveOutBefore, Stands};
@@ -9,13 +10,16 @@ ghost use Rattle.rtp_buffer.specs.Watch.{on};
 ghost use Rattle.rtp_buffer.specs.Pace.{wait_of, followed, given_up};
 ghost use Rattle.rtp_stream.specs.Places.{period_samples};
 ghost use Rattle.rtp_stream.specs.Sources.{sources_home};
-ghost use Rattle.rtp_stream.specs.Stream.{track_home, track_given_up, placed, pace_after, is_still, transit_of, arrival_of, is_taken, judged_in, placed_in, reception_after, BeginsAt};
+ghost use Rattle.rtp_stream.specs.Stream.{most_depth, track_home, track_given_up, placed, pace_after, is_still, transit_of, arrival_of, is_taken, judged_in, placed_in, reception_after, BeginsAt};
 
 use crate::place::{PERIOD_SAMPLES, Place};
 use crate::source::{Sources, Verdict};
 use crate::track::{Placed, Track};
 use rtp_buffer::Buffer;
 use rtp_packet::{Header, Reception};
+
+// The most ticks that a stream's first packet waits, half a second.
+const MOST_DEPTH: u32 = 25;
 
 // Ticks beyond the depth after which a source that brought nothing is still.
 const STILL: u32 = 2;
@@ -40,7 +44,7 @@ pub enum Arrival {
 /// One incoming stream. `N`: the octets of a period.
 #[derive(Clone, Copy)]
 pub struct Stream<const N: usize> {
-    /// The ticks that its first packet waits.
+    /// The ticks that its first packet waits, at most 25.
     pub depth: u32,
     /// Whose packets are taken.
     pub sources: Sources,
@@ -55,17 +59,20 @@ pub struct Stream<const N: usize> {
 }
 
 impl<const N: usize> Stream<N> {
-    /// Makes it a stream before its first packet, which will wait `depth` ticks. `offset`: 0, or half a period for frames
+    /// Makes it a stream before its first packet, which will wait `depth` ticks, at most 25: others of its packets,
+    /// which wait longer, must not be far away. `offset`: 0, or half a period for frames
     /// (`Track`).
     pub fn reset(&mut self, depth: u32, offset: u32)
         requires { offset < period_samples }
-        ensures depth { self.new.depth ≡ depth }
+        ensures depth { self.new.depth ≡ min depth most_depth }
         ensures sources { self.new.sources ≡ sources_home }
         ensures track { self.new.track ≡ track_home offset 0 }
+        ensures reception { self.new.reception ≡ reception_home 0 0 }
         ensures smooth { self.new.reception.jitter ≤ most_jitter }
-        ensures begins { BeginsAt self.new depth 0 }
+        ensures heard_at { self.new.heard_at ≡ 0 }
+        ensures begins { BeginsAt self.new (min depth most_depth) 0 }
     {
-        self.depth = depth;
+        self.depth = depth.min(MOST_DEPTH);
         self.sources = Sources::home();
         self.reception = Reception::home(0, 0);
         self.track = Track::home(offset, 0);
@@ -221,10 +228,11 @@ impl<const N: usize> Stream<N> {
             × (self.new.buffer.store ≡ self.old.buffer.store) × (self.new.buffer.newest ≡ self.old.buffer.newest) × (self.new.heard_at ≡ tick) }
         ensures jump { result ≡ Arrival.Jump → BeginsAt self.new self.old.depth (on tick behind) × (self.new.heard_at ≡ tick) }
 
-        // A packet that isn't taken changes nothing of what is played, nor the newest packet, from which places are counted.
+        // A packet that isn't taken changes nothing of what is played, nor the newest packet, from which places are
+        // counted.
         ensures refused { is_taken result ≡ false → (self.new.buffer ≡ self.old.buffer) × (self.new.heard_at ≡ self.old.heard_at)
             × (self.new.track.newest ≡ self.old.track.newest) }
-        ensures depth { self.new.depth ≡ self.old.depth }
+        ensures others { self.new ≡ record self.old { sources = self.new.sources; reception = self.new.reception; track = self.new.track; heard_at = self.new.heard_at; buffer = self.new.buffer } }
         ensures smooth { self.new.reception.jitter ≤ most_jitter }
         ensures sample { self.new.track.newest.place.sample < period_samples }
         ensures offset { self.new.track.offset ≡ self.old.track.offset }
@@ -232,7 +240,7 @@ impl<const N: usize> Stream<N> {
         let is_still = self.is_still(tick);
         match self
             .sources
-            .judge(header.source, header.sequence_number, is_still)
+            .judge(header.source, header.sequence_number, tick, is_still)
         {
             Verdict::OnProbation => Arrival::OnProbation,
             Verdict::Begins => {
@@ -248,6 +256,9 @@ impl<const N: usize> Stream<N> {
     pub fn give_up(&mut self, periods: u32, tick: u32)
         ensures track { self.new.track ≡ track_given_up self.old.track periods tick }
         ensures pace { self.new.buffer.pace ≡ given_up self.old.buffer.pace periods }
+        ensures newest { self.new.buffer.newest ≡ self.old.buffer.newest }
+        ensures left_out { (period k : ℕ) → place self.new.buffer.store.slots period k ≡
+            (if is_before period (period_at self.new.buffer.pace tick) then after_leaving_out (place self.old.buffer.store.slots period k) else place self.old.buffer.store.slots period k) }
         ensures ahead { (period k : ℕ) → is_before period (period_at self.new.buffer.pace tick) ≡ false →
             place self.new.buffer.store.slots period k ≡ place self.old.buffer.store.slots period k }
         ensures stands { (deeds : List Deed) → Stands deeds self.old.buffer.store.slots →

@@ -88,10 +88,11 @@ fn next_of(header: &Header, samples: u32) -> Next
 
 impl GivenUp {
     // What may still come of it, once a packet has come that waits so long.
-    fn still(self, wait: u32, tick: u32) -> GivenUp
-        ensures { result ≡ still_given_up self wait tick }
+    fn still(self, wait: u32, tick: u32, behind: u32) -> GivenUp
+        ensures { result ≡ still_given_up self wait tick behind }
     {
-        if wait < BEHIND || tick.wrapping_sub(self.at) >= LIMIT {
+        let is_in_time = wait < BEHIND && !is_far(wait, behind);
+        if is_in_time || tick.wrapping_sub(self.at) >= LIMIT {
             GivenUp {
                 periods: 0,
                 at: self.at,
@@ -214,7 +215,7 @@ impl Track {
     {
         let place = self.newest.place_of(header.timestamp);
         let wait = pace.wait(place.period, tick);
-        self.given_up = self.given_up.still(wait, tick);
+        self.given_up = self.given_up.still(wait, tick, behind);
         self.place_at(header, samples, place, wait, behind)
     }
 
