@@ -1,15 +1,13 @@
 /* The gateway's loop (pump.c), as Python drives it (python/trau/gateway/pump.py).
  *
  * Python opens sockets, decides on lines and writes the recording. The loop reads, turns calls and sends, on a thread of its own. It
- * decides nothing about a packet: a call is behind trau_call.h. Two threads meet here alone, in three rings: commands go to the loop, events
- * come back in their order (answers to commands, and blocks of records), and emptied blocks return. Neither thread ever waits for the other.
+ * decides nothing about a packet but whether its sender is the peer: a call is behind trau_call.h. Two threads meet here alone, in three
+ * rings: commands go to the loop, events come back in their order (answers to commands, and blocks of records), and emptied blocks return.
+ * Neither thread ever waits for the other.
  */
 #ifndef TRAU_PUMP_H
 #define TRAU_PUMP_H
 #include "trau_call.h"
-#include <netinet/in.h>
-#include <stdbool.h>
-#include <stdint.h>
 
 enum { PUMP_PHASES = 4, PUMP_SIDES = 2, PUMP_LINES = 4 };
 enum pump_verb { PUMP_NOTHING, PUMP_OPEN, PUMP_SET, PUMP_BRIDGE, PUMP_PART, PUMP_REPORT, PUMP_CLOSE };
@@ -51,48 +49,50 @@ struct pump_event { uint32_t kind, number, period; };
 /* Periods of a call in a row, line by line: room for `every` periods of Up, then of Pcm, Down, Out. */
 struct pump_block { uint32_t slot, periods; uint8_t *octets; };
 
-/* The clock, up to now. Times in nanoseconds. */
+/* The clock up to now, and how far behind and how late (nanoseconds) it was at most since it was asked last. */
 struct pump_state { uint32_t period, late, given_up, load, behind, has_ended; int64_t latest; };
 
-/* Of a report, a command, a side, an event, a block and a state: Python compares them with its own. */
-extern const uint32_t pump_sizes[6];
+/* Of a report, a command, a side, an event, a block, a state and settings: Python compares them with its own. */
+extern const uint32_t pump_sizes[7];
 
 struct pump;
 struct pump *pump_new(uint32_t slots, uint32_t every, uint32_t blocks, uint32_t commands);
 void pump_free(struct pump *);
 
-/* Commands. A batch that is published at once is executed at the start of one period. 0: there is no room. */
-uint32_t pump_stage(struct pump *, const struct pump_command *);
+/* Commands. A batch that is published at once is executed at the start of one period. false: there is no room. */
+bool pump_stage(struct pump *, const struct pump_command *);
 void pump_publish(struct pump *);
 bool pump_take_event(struct pump *, struct pump_event *);
 void pump_report_of(const struct pump *, uint32_t number, struct pump_report *); /* until the next event is taken */
 const struct pump_block *pump_block_of(const struct pump *, uint32_t number);
 void pump_return_block(struct pump *, uint32_t number);
 
-/* A slot that isn't open: begins its call, ends it. */
-bool pump_prepare(struct pump *, uint32_t slot, uint32_t number, uint32_t law, uint32_t depth, bool prime, const uint8_t random[20],
-                  const struct pump_side sides[PUMP_SIDES], bool is_recorded);
+/* A slot that isn't open: begins its call (the result is trau_call_begin's), ends it if it has begun. */
+uint32_t pump_prepare(struct pump *, uint32_t slot, const struct trau_call_settings *, const struct pump_side sides[PUMP_SIDES],
+                      bool is_recorded);
 void pump_dismiss(struct pump *, uint32_t slot);
 int pump_watch(struct pump *, uint32_t slot, uint32_t side, uint32_t phase); /* 0, or errno */
-struct trau_call *pump_call_of(struct pump *, uint32_t slot);
 
 /* The loop on its own thread, up to the period `until` or pump_stop; it writes to `wakes` in each period. */
 int pump_start(struct pump *, uint32_t until, int wakes);
 uint32_t pump_stop(struct pump *); /* the period at which it ended, of which nothing is processed */
-void pump_state(struct pump *, struct pump_state *); /* behind: the most periods since this was called last */
-int64_t pump_lately(struct pump *); /* how late a turn was at most since this was called last */
+void pump_state(struct pump *, struct pump_state *);
+
+/* A turn of the clock: the calls of a phase process a period, some periods late, after others were given up. */
+struct pump_turn { uint32_t period, phase, behind, given_up; };
 
 /* What the thread does in a turn; without it a test does this, on its own clock. */
 void pump_execute(struct pump *, uint32_t period);
-void pump_process(struct pump *, uint32_t phase, uint32_t period, uint32_t behind);
-void pump_give_up(struct pump *, uint32_t periods, uint32_t period);
-void pump_arrived(struct pump *, uint32_t slot, uint32_t side, const uint8_t *octets, uint32_t count, uint32_t host, uint16_t port,
-                  uint32_t period, uint32_t behind);
+void pump_process(struct pump *, const struct pump_turn *);
+void pump_give_up(struct pump *, const struct pump_turn *);
+void pump_arrived(struct pump *, uint32_t slot, uint32_t side, const uint8_t *octets, size_t count, uint32_t host, uint16_t port,
+                  const struct pump_turn *);
 
 /* The clock alone, as the thread has it. */
-struct pump_turn { uint32_t period, phase, behind, given_up; };
 struct pump_clock;
 struct pump_clock *pump_clock_new(int64_t now);
 int64_t pump_clock_due(const struct pump_clock *);
 struct pump_turn pump_clock_turn(struct pump_clock *, int64_t begun, int64_t woken); /* when its wait began, and ended */
+uint32_t pump_clock_given_up(const struct pump_clock *);
+void pump_clock_state(struct pump_clock *, struct pump_state *); /* all but the period, and whether it has ended */
 #endif

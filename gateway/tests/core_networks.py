@@ -1,5 +1,5 @@
 """Random networks into a call of the loop's core (trau_call.h) and into the same call in Python: the four lines and all packets out of both
-are compared, octet for octet. The core is whatever the library of the loop has: the stand-in, or the proved exports."""
+are compared, octet for octet, and all counts. Python is the oracle: the rules once more, without proof and without haste."""
 
 from __future__ import annotations
 
@@ -7,12 +7,15 @@ import ctypes
 import random
 import struct
 from collections import Counter
-from typing import List, Optional, Tuple
+from typing import Dict, List, Optional, Tuple
 
 from support import LINE, SPEECH
 
 from trau import trau_fr
+from trau.gateway import pump
 from trau.gateway.calls import LiveCall
+from trau.gateway.rtcp import signed
+from trau.gateway.rtp import STAMPS
 from trau.gateway.settings import Settings
 
 MOST_DATAGRAM = 9000
@@ -20,6 +23,11 @@ DEPTHS = 0, 1, 3, 3, 10, 25
 JUMPS = 16_000, 80_000, -80_000, 80 * 160, 60 * 160  # of time stamps
 CODES = 0, 3, 8, 13, 72, 101  # of other payload types
 _u32, _bytes, _pointer = ctypes.c_uint32, ctypes.c_char_p, ctypes.c_void_p
+_Record = ctypes.c_uint8 * 400
+
+
+class _Datagrams(ctypes.Structure):
+    _fields_ = [("gsm", ctypes.c_uint8 * 45), ("pcm", ctypes.c_uint8 * 172)]
 
 
 def descriptor() -> bytes:
@@ -35,15 +43,14 @@ DESCRIPTOR = descriptor()
 def load(path: str) -> ctypes.CDLL:
     """The core in the library of the loop."""
     core = ctypes.CDLL(path)
-    core.trau_call_begin.argtypes = [_pointer, _u32, _u32, _u32, ctypes.c_bool, _bytes]
-    core.trau_call_begin.restype = ctypes.c_bool
-    core.trau_call_packet.argtypes = [_pointer, _u32, _bytes, _u32, _u32, _u32]
-    core.trau_call_turn.argtypes = [_pointer, _u32, ctypes.c_int16, ctypes.c_bool] + [_pointer] * 3
-    core.trau_call_turn_pair.argtypes = [_pointer, _pointer, _u32] + [_pointer] * 5
+    core.trau_call_begin.argtypes = [_pointer, _pointer]
+    core.trau_call_packet.argtypes = [_pointer, _u32, _bytes, ctypes.c_size_t, _u32, _u32]
+    core.trau_call_turn.argtypes = [_pointer, _u32, ctypes.c_int16, ctypes.c_bool] + [_pointer] * 2
+    core.trau_call_turn.restype = ctypes.c_bool
+    core.trau_call_turn_pair.argtypes = [_pointer, _pointer, _u32] + [_pointer] * 2
     core.trau_call_give_up.argtypes = [_pointer, _u32, _u32]
-    for name in ("trau_call_pair", "trau_call_part"):
-        getattr(core, name).argtypes = [_pointer, _pointer]
     core.trau_call_end.argtypes = [_pointer]
+    core.trau_call_reports.argtypes = [_pointer, _u32, _pointer]
     return core
 
 
@@ -157,16 +164,15 @@ class Both:
         law = draw.choice(("alaw", "mulaw"))
         self.settings = Settings(number, law, draw.choice((0, 256, 2000)), draw.random() < 0.5)
         self.settings.depth, self.settings.prime = draw.choice(DEPTHS), draw.random() < 0.5
+        if draw.random() < 0.2:
+            self.settings.types = {"gsm": draw.randrange(96, 128), "pcm": draw.randrange(96, 128)}
         self.core, self.call = core, LiveCall(self.settings, 0)
-        first = draw.randbytes(20)
-        for at, out in ((0, self.call.to_gsm), (10, self.call.to_pcm)):
-            out.number, out.stamp, out.source = struct.unpack_from(">HII", first, at)
+        for out in (self.call.to_gsm, self.call.to_pcm):
+            out.number, out.stamp = draw.getrandbits(16), draw.getrandbits(32)
+            out.source = draw.getrandbits(32)
         self.handle = ctypes.pointer(_pointer())
-        settings = self.settings
-        assert core.trau_call_begin(
-            self.handle, number, law == "mulaw", settings.depth, settings.prime, first
-        )
-        self.peers = Sender(draw, True, 3), Sender(draw, False, 8 if law == "alaw" else 0)
+        assert core.trau_call_begin(self.handle, ctypes.byref(pump.beginning_of(self.call))) == 0
+        self.peers = Sender(draw, True, self.call.gsm.kind), Sender(draw, False, self.call.pcm.kind)
 
     def end(self) -> None:
         """Frees the memory of the core."""
@@ -193,30 +199,54 @@ class Both:
         )
         return b"".join(lines), sent["gsm"], sent["pcm"]
 
+    def reported(self, side: int) -> Tuple[object, ...]:
+        """The counts of a side and of the call's periods, what came of the source that is heard,
+        and what was sent, by the core."""
+        core = pump.CoreReports()
+        self.core.trau_call_reports(self.handle, side, ctypes.byref(core))
+        counts = Counter(dict(zip(pump.REASONS[1:], list(core.counts)[1:])))
+        counts["missing"] = signed(counts["missing"], 32)
+        came = core.source, core.received, core.highest - core.first & STAMPS, core.jitter
+        sent = core.stamp, core.sender, core.packets, core.octets
+        heard = core.heard if core.was_heard else None
+        periods = Counter(dict(zip(pump.PERIODS, core.periods)))
+        return not_0(counts), not_0(periods), heard, came if core.is_known else None, sent
+
+    def counted(self, side: int) -> Tuple[object, ...]:
+        """As `reported`, in Python."""
+        incoming, out, _ = list(self.call.sides.values())[side]
+        counts, reception = Counter(incoming.counts), incoming.reception
+        counts.update(incoming.buffer.counts)
+        came = reception and (
+            *(reception.source, reception.received),
+            *(reception.highest - reception.first & STAMPS, reception.jitter),
+        )
+        sent = out.stamp, out.source, out.packets, out.octets
+        periods = Counter(self.call.counts)
+        del periods["held-up"]
+        return not_0(counts), not_0(periods), incoming.heard, came, sent
+
+
+def not_0(counts: Counter[str]) -> Dict[str, int]:
+    """The counts that aren't 0."""
+    return {name: count for name, count in counts.items() if count}
+
 
 def of_core(
     core: ctypes.CDLL, calls: List[Both], tick: int, is_pair: bool
 ) -> List[Tuple[bytes, ...]]:
     """The four lines of a period and the packets to both sides, by the core, of each call."""
-    count = len(calls)
-    records, gsm, pcm = ((ctypes.c_char * (size * count))() for size in (400, 45, 172))
-    settings = [call.settings for call in calls]
+    handles = [call.handle for call in calls]
+    records, datagrams = (_Record * len(calls))(), (_Datagrams * len(calls))()
     if is_pair:
-        levels = (ctypes.c_int16 * 2)(*(each.level for each in settings))
-        dtx = (ctypes.c_bool * 2)(*(each.dtx for each in settings))
-        handles = [call.handle for call in calls]
-        sent = core.trau_call_turn_pair(*handles, tick, levels, dtx, records, gsm, pcm)
+        to_gsm = core.trau_call_turn_pair(*handles, tick, records, datagrams)
     else:
         (one,) = calls
         state = one.settings.level, one.settings.dtx
-        sent = core.trau_call_turn(one.handle, tick, *state, records, gsm, pcm)
+        to_gsm = core.trau_call_turn(one.handle, tick, *state, records, datagrams)
     return [
-        (
-            records.raw[400 * k : 400 * (k + 1)],
-            gsm.raw[45 * k : 45 * (k + 1)] if sent >> 2 * k & 1 else b"",
-            pcm.raw[172 * k : 172 * (k + 1)] if sent >> 2 * k & 2 else b"",
-        )
-        for k in range(count)
+        (bytes(record), bytes(each.gsm) if to_gsm >> k & 1 else b"", bytes(each.pcm))
+        for k, (record, each) in enumerate(zip(records, datagrams))
     ]
 
 
@@ -236,10 +266,6 @@ class Run:
             self.is_pair = not self.is_pair
             for mine, partner in ((one, other), (other, one)):
                 mine.call.partner = partner.call if self.is_pair else None
-                if self.is_pair:
-                    mine.call.begin_bridge()
-            export = self.core.trau_call_pair if self.is_pair else self.core.trau_call_part
-            export(one.handle, other.handle)
         self.behind = max(0, self.behind - 1) if draw.random() < 0.99 else draw.randrange(50)
         if draw.random() < 0.001:
             periods = draw.randrange(50, 200)
@@ -259,9 +285,15 @@ class Run:
             got = [
                 each for group in groups for each in of_core(self.core, group, tick, self.is_pair)
             ]
-            if got != wanted:
+            if got != wanted or tick % 50 == 49 and self.counts_differ():
                 return tick
         return None
+
+    def counts_differ(self) -> bool:
+        """Whether both count otherwise."""
+        return any(
+            call.reported(side) != call.counted(side) for call in self.calls for side in range(2)
+        )
 
     def counts(self) -> Counter[str]:
         """What happened to packets, in Python."""

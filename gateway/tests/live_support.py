@@ -17,7 +17,7 @@ import unittest
 from pathlib import Path
 from typing import Any, Callable, Dict, Iterable, Iterator, List, Optional, Tuple
 
-from support import GATEWAY, LINE, PUMP, SPEECH, InFolder, repeated
+from support import GATEWAY, LINE, SPEECH, InFolder, repeated
 
 from trau.gateway.rtp import ALAW, GSM, MULAW
 from spoiler import CLEAN, Faults, Sent, schedule
@@ -118,7 +118,6 @@ class Live:
             str(folder),
             "--address",
             address,
-            *(("--pump",) if PUMP else ()),
             *words,
         ]
         pipe, limit = subprocess.PIPE, limited(file_limit, descriptor_limit)

@@ -16,10 +16,9 @@ TESTS = Path(__file__).resolve().parent
 RUNS, PERIODS = 1000, 600
 
 
-@with_compiler
 class Networks(unittest.TestCase):
     def test_the_core_does_as_python(self):
-        core, counts = core_networks.load(loop_library.library()), Counter()
+        core, counts = core_networks.load(loop_library.given()), Counter()
         for seed in range(RUNS):
             run = core_networks.Run(core, seed)
             self.assertIsNone(run.differs_at(PERIODS), f"seed {seed}")

@@ -1,5 +1,4 @@
-"""The library of the gateway's loop (gateway/pump.c), built for a test: over the stand-in of the core, as long as the C library has no
-exports of a call."""
+"""The library of the gateway's loop (gateway/pump*.c) over libtrau_call: as clib/build makes it, or built for a test with a sanitizer."""
 
 from __future__ import annotations
 
@@ -15,8 +14,11 @@ from typing import Dict, List, Optional
 
 from support import GATEWAY, TOP
 
+from trau.gateway import pump
+
 CLIB = Path(os.environ.get("TRAU_CLIB") or TOP / "clib" / "out")
-PARTS = {"pump.c": "-Wall -Wextra -Wpedantic -Wshadow -Werror".split(), "tests/stand_in.c": []}
+PARTS = "pump.c", "pump_clock.c", "pump_end.c"
+STRICT = "-Wall -Wextra -Wpedantic -Wshadow -Wconversion -Werror".split()
 # By what they watch: what the compiler is told, and what has to be loaded before the program.
 SANITIZERS = {
     "memory": ("address,undefined", ("libasan.so", "libubsan.so")),
@@ -41,26 +43,25 @@ def folder() -> Path:
 def compiled(source: str, name: str, flags: List[str]) -> str:
     """The object of a source file."""
     made = folder() / f"{Path(source).stem}{name}.o"
-    includes = ["-I", str(GATEWAY / "tests"), "-I", str(CLIB / "include")]
-    words = ["cc", "-std=gnu11", "-O2", "-g", "-fPIC", *flags, *PARTS[source], *includes]
+    words = ["cc", "-std=gnu11", "-O2", "-g", "-fPIC", *flags, *STRICT, f"-I{CLIB / 'include'}"]
     subprocess.run([*words, "-c", str(GATEWAY / source), "-o", str(made)], check=True)
     return str(made)
 
 
 @functools.lru_cache(None)
-def library(sanitizer: str = "") -> str:
-    """The library, perhaps with a sanitizer."""
-    flags = [f"-fsanitize={SANITIZERS[sanitizer][0]}"] if sanitizer else []
+def library(sanitizer: str) -> str:
+    """The library with a sanitizer."""
+    flags = [f"-fsanitize={SANITIZERS[sanitizer][0]}"]
     parts = [compiled(source, sanitizer, flags) for source in PARTS]
-    made, codec = folder() / f"libtrau_pump{sanitizer}.so", CLIB / "lib" / "libtrau_fr.a"
-    words = ["cc", "-shared", *flags, *parts, str(codec), "-lpthread", "-o", str(made)]
+    made, core = folder() / f"libtrau_pump{sanitizer}.so", CLIB / "lib" / "libtrau_call.a"
+    words = ["cc", "-shared", *flags, *parts, str(core), "-lpthread", "-o", str(made)]
     subprocess.run(words, check=True)
     return str(made)
 
 
 def given() -> str:
-    """The library that TRAU_PUMP names, or one that is built."""
-    return os.environ.get("TRAU_PUMP") or library()
+    """The library that the gateway takes."""
+    return str(pump.library_path())
 
 
 def runtime(sanitizer: str) -> Optional[str]:
@@ -74,5 +75,7 @@ def runtime(sanitizer: str) -> Optional[str]:
 
 def environment(sanitizer: str = "") -> Dict[str, str]:
     """The environment of tests with the loop, perhaps with a sanitizer, whose first word ends the process."""
-    given = {**os.environ, "TRAU_PUMP": library(sanitizer)}
-    return {**given, **OPTIONS, "LD_PRELOAD": runtime(sanitizer) or ""} if sanitizer else given
+    if not sanitizer:
+        return {**os.environ, "TRAU_PUMP": given()}
+    preloaded = {"TRAU_PUMP": library(sanitizer), "LD_PRELOAD": runtime(sanitizer) or ""}
+    return {**os.environ, **OPTIONS, **preloaded}

@@ -3,6 +3,7 @@
 from __future__ import annotations
 
 import contextlib
+import ctypes
 import heapq
 import io
 import os
@@ -12,7 +13,7 @@ import tempfile
 import unittest
 from collections import defaultdict
 from pathlib import Path
-from typing import Callable, Dict, Iterable, List, Optional, Tuple
+from typing import Callable, Dict, Iterable, List, Optional, Set, Tuple
 
 GATEWAY = Path(__file__).resolve().parents[1]
 TOP = GATEWAY.parent
@@ -29,7 +30,7 @@ from trau.gateway.recorder import Recorder
 from trau.gateway.rtcp import Reports
 from trau.gateway.settings import Address, Side
 from spoiler import Sent
-from trau.gateway.switchboard import Switchboard
+from trau.gateway.switchboard import Connection, Switchboard
 
 # The program that replays; ./trau alone would prove and build one.
 PROGRAM = os.environ.get("TRAU_PROGRAM")
@@ -115,7 +116,7 @@ class TurnedNetwork:
         return self.endpoints[side.port]
 
     def move(self, endpoint: TurnedEndpoint, old: int, new: int) -> None:
-        """As Network.move."""
+        """Another phase of an endpoint, as of the loop."""
         assert self.phases[endpoint.address] == old
         self.phases[endpoint.address] = new
 
@@ -124,14 +125,14 @@ class TurnedNetwork:
         assert self.phases.pop(endpoint.address) == phase
 
     def drop(self) -> None:
-        """As Network.drop."""
+        """What came in time that was given up, as the loop drops it."""
         for port in self.phases:
             while self.coming[port] and self.coming[port][0][0] <= self.clock.time:
                 _, _, packet, sender = heapq.heappop(self.coming[port])
                 self.endpoints[port].outdated(packet, sender)
 
     def read(self, phase: int, tick: int, behind: int) -> None:
-        """As Network.read."""
+        """What came for the endpoints of a phase, as the loop reads it."""
         for port in [port for port, each in self.phases.items() if each == phase]:
             queue = self.coming[port]
             while queue and queue[0][0] <= self.clock.time:
@@ -189,13 +190,44 @@ class LoopNetwork(TurnedNetwork):
     def bring_to(self, port: int, tick: int, behind: int) -> None:
         """Gives the loop what came to a port."""
         queue, (slot, side) = self.coming[port], self.board.place_of(port)
-        pump = self.board.pump
+        loop, turn = self.board.pump, ctypes.byref(pump.LoopTurn(tick, 0, behind, 0))
         while queue and queue[0][0] <= self.clock.time:
             _, _, packet, (host, far) = heapq.heappop(queue)
             address = int.from_bytes(socket.inet_aton(host), sys.byteorder), socket.htons(far)
-            pump.library.pump_arrived(
-                pump.pump, slot, side, packet, len(packet), *address, tick, behind
-            )
+            loop.library.pump_arrived(loop.pump, slot, side, packet, len(packet), *address, turn)
+
+
+class OracleBoard(Switchboard):
+    """The switchboard over calls in Python."""
+
+    def move(self, connection: Connection, phase: int) -> None:
+        """As Switchboard.move."""
+        if phase != connection.phase:
+            for endpoint in connection.endpoints.values():
+                self.network.move(endpoint, connection.phase, phase)
+        super().move(connection, phase)
+
+    def process(self, phase: int, period: int, behind: int) -> None:
+        """As Switchboard.process. Both calls of a bridge hear before one speaks."""
+        self.network.read(phase, period, behind)
+        connections = [each for each in self.connections.values() if each.phase == phase]
+        for connection in connections:
+            connection.call.hear(period)
+            if behind:
+                connection.call.counts["held-up"] += 1
+        for connection in connections:
+            sends = (connection.endpoints[side].send for side in NAMES)
+            lines = connection.call.speak(period, *sends)
+            connection.recorder.period(connection.call.number, lines)
+        for recorder in self.recorders:
+            recorder.write()
+
+    def give_up(self, periods: int, period: int) -> None:
+        """As Switchboard.give_up."""
+        self.say_given_up(periods, period)
+        self.network.drop()
+        for connection in self.connections.values():
+            connection.call.give_up(periods, period)
 
 
 class LoopBoard(PumpBoard):
@@ -203,10 +235,16 @@ class LoopBoard(PumpBoard):
 
     tick = 0
 
+    def process(self, phase: int, period: int, behind: int) -> None:
+        """As PumpBoard.process."""
+        self.network.read(phase, period, behind)
+        super().process(phase, period, behind)
+
     def give_up(self, periods: int, period: int) -> None:
         """As PumpBoard.give_up."""
         self.tick = period
         super().give_up(periods, period)
+        self.network.drop()
 
     def end_recordings(self, period: Optional[int]) -> bool:
         """As PumpBoard.end_recordings; calls that a fault has left open have no sockets then."""
@@ -273,7 +311,7 @@ class Turned:
         self.recorder = Recorder(folder, every, self.say)
         self.recorder.make()
         parts = self.network, self.recorder, 100, self.say
-        self.board = LoopBoard(*parts, pump.load(Path(PUMP))) if PUMP else Switchboard(*parts)
+        self.board = LoopBoard(*parts, pump.load(Path(PUMP))) if PUMP else OracleBoard(*parts)
         self.network.board = self.board
 
     def bring(
@@ -309,10 +347,27 @@ class InFolder(unittest.TestCase):
         return status, out.getvalue().splitlines()
 
     def assert_replays(self, folder: Path) -> List[str]:
-        """A run makes the lines of the recording again."""
+        """A run makes the lines of the recording again, and each bridge has a period."""
         status, lines = self.checked(folder)
         self.assertEqual(status, 0, lines)
+        self.assert_bridges_have_periods(folder)
         return lines
+
+    def assert_bridges_have_periods(self, folder: Path) -> None:
+        """Each bridge of a recording has at least one period, and one is between two of a call."""
+        bridges: Dict[int, Tuple[int, Set[int]]] = {}  # of each call, with the period of its order
+        parted: Dict[int, int] = {}
+        for order in replay.whole_orders(folder):
+            if order.verb == "bridge":
+                for call in order.calls:
+                    self.assertGreater(order.stamp, parted.get(call, -1), order.line())
+                    bridges[call] = order.stamp, set(order.calls)
+            elif order.verb in ("unbridge", "close") and order.calls[0] in bridges:
+                begun, calls = bridges[order.calls[0]]
+                self.assertGreater(order.stamp, begun, order.line())
+                for call in calls:
+                    del bridges[call]
+                    parted[call] = order.stamp
 
     def run_tool(self, main: Callable[[List[str]], int], words: List[str]) -> Tuple[int, str, str]:
         """The status of a tool, and what it said on standard output and standard error."""

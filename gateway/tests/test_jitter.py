@@ -239,6 +239,28 @@ class Reordering(unittest.TestCase):
             self.assertEqual(got, wanted)
 
 
+class Stalls(unittest.TestCase):
+    """A path brings nothing for a while, and then all at once, of which a tick reads four packets."""
+
+    def delays(self, length, ticks):
+        """The delay after each tick. In speech there is a pause of a second each 2.5 s."""
+        stream, waiting = gsm_stream(), []
+        for tick in range(ticks):
+            if tick % 125 < 75 or tick % 24 == 0:
+                waiting.append(tick)
+            if not LATER <= tick < LATER + length:
+                for number in waiting[:4]:
+                    stream.packet(gsm_packet(number), tick, 0)
+                del waiting[:4]
+            stream.buffer.take(tick)
+            yield -stream.buffer.shift
+
+    def test_the_depth_comes_back_within_14_seconds(self):
+        for length in (10, 20, 40):
+            delays = list(self.delays(length, LATER + length + 700))
+            self.assertEqual((max(delays), delays[-1]), (length + DEPTH - 1, DEPTH), length)
+
+
 class Parts(unittest.TestCase):
     """Packets of which only a part is late."""
 

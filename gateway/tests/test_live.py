@@ -223,6 +223,18 @@ class Calls(WithLive):
         self.assertEqual(live.end(), 0)
         self.assert_replays(live.folder)
 
+    def test_bridges_that_are_to_end_at_once(self):
+        for turn, line in enumerate(("", "unbridge 1", "close 2", "unbridge 1")):
+            live = self.live(self.folder / f"rec{turn}")
+            rows = [row for call in (1, 2) for row in talk(live.open(call), call, 400)]
+            with playing(rows):
+                live.wait_for_periods(1, 10)
+                live.process.stdin.write(f"bridge 1 2\n{line}\n")
+                if turn < 3:
+                    live.wait_for_reply()
+            self.assertEqual(live.end(), 0)
+            self.assert_replays(live.folder)
+
     def test_kills(self):
         draw = random.Random(11)
         for turn in range(3):

@@ -38,16 +38,11 @@ from trau.gateway.incoming import Incoming
 from trau.gateway.jitter_buffer import LIMIT, MOST_MARGIN, PATIENCE, WINDOW, JitterBuffer
 from trau.gateway import clock
 from trau.gateway import live
-from trau.gateway import network as network_module
 from trau.gateway.live import Commands, Gateway, Speaker
 from trau.gateway.network import (
-    FEWEST_SOCKETS,
     KEEPS_PORT,
-    MOST_OCTETS,
-    MOST_PACKETS,
     Endpoint,
     Network,
-    SocketEndpoint,
 )
 from trau.gateway.recorder import CLOSE_OCTETS, Recorder
 from trau.gateway.rtcp import Reception, Reports
@@ -280,6 +275,14 @@ class Streams(unittest.TestCase):
             stream.packet(header(3, number, stamp, 5) + ONE, 1, 0)
         self.assertEqual(stream.counts, {"far": 1, "jumps": 1, "late": 1})
 
+    def test_a_packet_that_is_far_away_doesnt_end_time_that_was_given_up(self):
+        stream = gsm_stream(0)
+        stream.packet(header(3, 1, 0, 5) + ONE, 0, 0)
+        stream.give_up(100, 1)
+        for number, place in ((900, 9000), (2, 1), (3, 2), (102, 101), (4, 3)):
+            stream.packet(header(3, number, 160 * place, 5) + ONE, 1, 0)
+        self.assertEqual(stream.counts, {"far": 2, "given-up": 2})
+
     def test_another_source_brings_two_packets(self):
         stream = gsm_stream()
         stream.packet(header(3, 1, 160, 5) + ONE, 0, 0)
@@ -294,8 +297,30 @@ class Streams(unittest.TestCase):
         ):
             stream.packet(header(3, number, 160 * number, source) + ONE, tick, 0)
         self.assertEqual(
-            (stream.source, stream.counts["probation"], stream.counts["new-source"]), (6, 4, 1)
+            (stream.source, stream.counts["probation"], stream.counts["new-source"]), (6, 3, 1)
         )
+
+    def test_of_new_sources_that_take_turns_one_is_heard(self):
+        for sources in ((6, 7), (6, 7, 8), (7, 6, 6)):
+            stream = gsm_stream()
+            stream.packet(header(3, 1, 160, 5) + ONE, 0, 0)
+            numbers = Counter()
+            for tick in range(1, 20):
+                for source in sources:
+                    numbers[source] += 1
+                    number = numbers[source]
+                    stream.packet(header(3, number, 160 * number, source) + ONE, tick, 0)
+            self.assertEqual((stream.source, stream.counts["new-source"]), (sources[0], 1), sources)
+
+    def test_a_source_that_brings_nothing_more_loses_its_place(self):
+        stream = gsm_stream()
+        stream.packet(header(3, 1, 160, 5) + ONE, 0, 0)
+        stream.packet(header(3, 1, 160, 7) + ONE, 10, 0)
+        heard = []
+        for tick in range(11, 20):
+            stream.packet(header(3, tick, 160 * tick, 6) + ONE, tick, 0)
+            heard.append(stream.source)
+        self.assertEqual(heard, 5 * [5] + 4 * [6])
 
     def test_two_senders_that_take_turns_as_one_source(self):
         stream, played = gsm_stream(1), []
@@ -831,17 +856,11 @@ class Endpoints(unittest.TestCase):
         self.assertEqual(set(self.arrivals(endpoint, rows)), {self.PEER})
 
     @with_loopback
-    def test_symmetric_rtp_and_rtcp(self):
-        with bound("127.0.0.2") as peer, bound("127.0.0.2") as control:
-            peer.settimeout(60)
+    def test_rtcp_goes_where_it_comes_from(self):
+        with bound("127.0.0.2") as control:
             control.settimeout(60)
-            network, endpoint, port, _ = self.opened(False, is_any=True)
-            for number in range(2):
-                peer.sendto(self.packet(number), ("127.0.0.1", port))
-            while not endpoint.incoming.counts["moved"]:
-                network.read(0, 0, 0)
-            endpoint.send(ONE)
-            self.assertEqual(peer.recv(100), ONE)
+            _, endpoint, port, _ = self.opened(False, is_any=True)
+            endpoint.peer = ("127.0.0.2", 6000)  # as it brought two packets in a row
             reports = Reports(rtp.Outgoing(rtp.GSM), endpoint.incoming.counts)
             control.sendto(receiver_report(5, []), ("127.0.0.1", port + 1))
             while not endpoint.incoming.counts["rtcp-sent"]:
@@ -857,24 +876,6 @@ class Endpoints(unittest.TestCase):
         endpoint.arrived(self.packet(1), self.PEER, 0, 0)
         self.assertEqual((endpoint.incoming.counts["fault"], endpoint.incoming.heard), (1, 0))
         self.assertEqual(endpoint.incoming.faults, {"fault": "error no room"})
-
-    @with_loopback
-    def test_what_cant_be_sent_is_named(self):
-        for is_strict in (True, False):
-            _, endpoint, _, _ = self.opened(is_strict)
-            failure = OSError(errno.ENETUNREACH, "Network is unreachable")
-            endpoint.socket = unittest.mock.Mock(
-                **{
-                    "send.side_effect": failure,
-                    "sendto.side_effect": failure,
-                    "fileno": endpoint.socket.fileno,
-                }
-            )
-            endpoint.send(ONE)
-            self.assertEqual(
-                (endpoint.incoming.counts, endpoint.incoming.faults),
-                ({"unsent": 1}, {"unsent": "Network is unreachable"}),
-            )
 
     @with_loopback
     def test_a_fault_of_a_report_is_counted(self):
@@ -900,15 +901,16 @@ class Endpoints(unittest.TestCase):
 
     @with_loopback
     def test_what_a_strict_peer_didnt_send_is_counted_alone(self):
-        network, endpoint, port, peer = self.opened(True)
+        _, endpoint, port, peer = self.opened(True)
         with bound() as stranger:
             for _ in range(3):
                 stranger.sendto(self.packet(1), ("127.0.0.1", port))
         peer.sendto(self.packet(2), ("127.0.0.1", port))
-        while not endpoint.incoming.buffer.periods or endpoint.incoming.counts["stranger"] < 3:
-            network.read(0, 0, 0)
+        while endpoint.incoming.counts["stranger"] < 3:
             endpoint.count_losses()
         self.assertEqual(+endpoint.incoming.counts, {"stranger": 3})
+        endpoint.socket.settimeout(60)
+        self.assertEqual(endpoint.socket.recv(100), self.packet(2))
 
     @with_loopback
     def test_strangers_that_find_no_room_are_counted(self):
@@ -942,52 +944,16 @@ class Endpoints(unittest.TestCase):
         self.assertEqual(+endpoint.incoming.counts, {"other-address": 1})
 
     @with_loopback
-    def test_a_closed_port_of_the_peer_is_counted(self):
-        for is_strict in (True, False):
-            network, endpoint, port, peer = self.opened(is_strict)
-            peer.close()
-            sent = 0
-            while not endpoint.incoming.counts["unreachable"] or sent < 20:
-                endpoint.send(ONE)
-                network.read(0, 0, 0)
-                sent += 1
-            with bound() as other:  # what comes is heard all the same
-                other.sendto(self.packet(1), ("127.0.0.1", port))
-                while endpoint.incoming.heard is None and not is_strict:
-                    network.read(0, 0, 0)
-            while network.polls[0].poll(0):  # the answers are taken out of the queue
-                network.read(0, 0, 0)
-            self.assertLessEqual(endpoint.incoming.counts["unreachable"], sent)
-
-    @with_loopback
-    def test_each_answer_of_a_closed_port_counts_once(self):
-        network, endpoint, _, peer = self.opened(False)
-        peer.close()
-        for _ in range(3 * MOST_PACKETS + 1):
-            endpoint.send(ONE)
-        while network.polls[0].poll(0):
-            network.read(0, 0, 0)
-        self.assertEqual(endpoint.incoming.counts, {"unreachable": 3 * MOST_PACKETS + 1})
-
-    @with_loopback
     def test_other_answers_stop_no_work(self):
         failures = [OSError(errno.EHOSTUNREACH, "No route to host")] * 3
         for is_strict in (True, False):
-            _, endpoint, port, peer = self.opened(is_strict)
+            _, endpoint, _, _ = self.opened(is_strict)
             endpoint.control.close()
             endpoint.control = unittest.mock.Mock(
                 **{"recvmsg.side_effect": [*failures, (b"", [(0, 0, bytes(16))], 0, self.PEER)]}
             )
             came = endpoint.came_to_control()
             self.assertEqual(next(came)[0], b"")
-            for number in range(2):
-                peer.sendto(self.packet(number), ("127.0.0.1", port))
-            receive = endpoint.receive
-            with unittest.mock.patch.object(
-                endpoint, "receive", side_effect=[*failures, receive(), BlockingIOError]
-            ):
-                endpoint.drop()
-            self.assertEqual(endpoint.incoming.counts["given-up"], 1)
 
     @with_loopback
     def test_what_came_before_the_socket_was_connected_is_dropped(self):
@@ -999,25 +965,10 @@ class Endpoints(unittest.TestCase):
                 really(one, peer)
 
             with unittest.mock.patch.object(socket.socket, "connect", connect):
-                network, endpoint, _, _ = self.opened(True)
-        network.read(0, 0, 0)
-        self.assertEqual((endpoint.incoming.heard, list(endpoint.came_to_control())), (None, []))
-
-    @with_loopback
-    def test_an_endpoint_that_cant_be_watched_is_closed(self):
-        network, failure = Network("127.0.0.1"), OSError(errno.ENOSPC, "No space left on device")
-        opened, really = [], SocketEndpoint.close
-
-        def close(endpoint):
-            opened.append(endpoint)
-            really(endpoint)
-
-        with unittest.mock.patch.object(network, "attach", side_effect=failure) as attach:
-            with unittest.mock.patch.object(SocketEndpoint, "close", close):
-                while not attach.called:
-                    with self.assertRaises(OSError), bound() as peer:
-                        network.open(Side(even_port(), peer.getsockname()), True, gsm_stream(), 0)
-        self.assertEqual((opened[0].socket.fileno(), network.endpoints), (-1, {}))
+                _, endpoint, _, _ = self.opened(True)
+        with self.assertRaises(BlockingIOError):
+            endpoint.socket.recv(1)
+        self.assertEqual(list(endpoint.came_to_control()), [])
 
     @with_loopback
     def test_what_finds_no_room_is_counted(self):
@@ -1025,54 +976,6 @@ class Endpoints(unittest.TestCase):
         while not endpoint.incoming.counts["overflowed"]:
             peer.sendto(bytes(8000), ("127.0.0.1", port))
             endpoint.count_losses()
-
-    @with_loopback
-    def test_what_is_old_is_dropped(self):
-        network, endpoint, port, peer = self.opened(True)
-        for number in range(300):
-            peer.sendto(self.packet(number), ("127.0.0.1", port))
-        while endpoint.incoming.counts["given-up"] < 300:
-            network.drop()
-        network.read(0, 0, 0)
-        self.assertEqual(
-            (+endpoint.incoming.counts, endpoint.incoming.reception), ({"given-up": 300}, None)
-        )
-
-    @with_loopback
-    def test_after_a_stall_work_is_bounded_and_new_packets_are_first(self):
-        times = itertools.count(0, network_module.MOST_DROPPING // 2)  # a socket takes half of it
-        network = Network("127.0.0.1", times.__next__)
-        opened = [self.opened(True, None, network) for _ in range(4)]
-        for _, endpoint, port, peer in opened:
-            for number in range(3):
-                peer.sendto(self.packet(number), ("127.0.0.1", port))
-        network.drop()
-        left = len(network.old)
-        self.assertEqual(left, 3)
-        seen = []
-        for _, endpoint, port, peer in opened:
-            peer.sendto(self.packet(9), ("127.0.0.1", port))
-            endpoint.incoming.packet = lambda data, tick, behind: seen.append(network.old.copy())
-        network.read(0, 0, 0)
-        self.assertEqual([len(old) for old in seen], [3])  # of the socket that has nothing old
-        while network.old:
-            network.drop_old(network_module.MOST_DROPPING)
-        self.assertEqual(sum(each.incoming.counts["given-up"] for _, each, _, _ in opened), 15)
-
-    @with_loopback
-    def test_what_is_read_at_a_tick_is_bounded(self):
-        network, endpoint, port, peer = self.opened(False)
-        for size, count, most in (
-            (50, 150, MOST_PACKETS * FEWEST_SOCKETS),
-            (8000, 10, MOST_OCTETS * FEWEST_SOCKETS // 8000 + 1),
-        ):
-            with unittest.mock.patch.object(endpoint, "arrived") as arrived:
-                for _ in range(count):
-                    peer.sendto(bytes(size), ("127.0.0.1", port))
-                while arrived.call_count < count:
-                    before = arrived.call_count
-                    network.read(0, 0, 0)
-                    self.assertLessEqual(arrived.call_count - before, most)
 
     def answers(self, is_strict, senders, counted):
         """The types of what the peer gets if these sockets send reports (None: its own), and itself nonsense."""

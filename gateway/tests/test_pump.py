@@ -1,9 +1,11 @@
-"""The gateway's loop in C: its core beside Python on random networks, its clock, its rings, its sockets; and all tests of calls once more, with
-the loop in place of Python."""
+"""The gateway's loop in C: its core beside Python on random networks, its clock, its rings, its sockets; and the tests of calls on a turned clock
+once more, with the loop in place of Python."""
 
 import contextlib
 import ctypes
+import errno
 import os
+import socket
 import subprocess
 import sys
 import unittest
@@ -14,7 +16,6 @@ from pathlib import Path
 import core_networks
 import loop_library
 from live_support import bound, even_port, with_loopback
-from loop_library import with_compiler
 from support import GATEWAY, InFolder, Kept, with_program
 
 from spoiler import header
@@ -22,17 +23,14 @@ from trau import trau_fr
 from trau.command_line.words import Refusal
 from trau.gateway import pump
 from trau.gateway.clock import PERIOD, PHASE
-from trau.gateway.network import FEWEST_SOCKETS, MOST_PACKETS
+from trau.gateway.network import Network
 from trau.gateway.pump import RECORD
 from trau.gateway.recorder import Recorder
+from trau.gateway.settings import Settings
 
 TESTS = Path(__file__).resolve().parent
 FRAME = b"\xd0" + bytes(32)
 BLOCKS = 100  # of records, besides one for each slot
-
-
-class Turn(ctypes.Structure):
-    _fields_ = [(name, ctypes.c_uint32) for name in ("period", "phase", "behind", "given_up")]
 
 
 def packet(number):
@@ -40,7 +38,6 @@ def packet(number):
     return header(3, number, 160 * number, 5) + FRAME
 
 
-@with_compiler
 class Networks(unittest.TestCase):
     def test_the_core_does_as_python(self):
         core, counts = core_networks.load(loop_library.given()), Counter()
@@ -53,7 +50,6 @@ class Networks(unittest.TestCase):
             self.assertGreater(counts[name], 0, name)
 
 
-@with_compiler
 class Clocks(unittest.TestCase):
     def turns(self, times):
         """The turns of a clock that begins at 0 and is woken at these times, or when a turn is due."""
@@ -61,7 +57,7 @@ class Clocks(unittest.TestCase):
         library.pump_clock_new.restype = ctypes.c_void_p
         library.pump_clock_due.restype = ctypes.c_int64
         library.pump_clock_due.argtypes = [ctypes.c_void_p]
-        library.pump_clock_turn.restype = Turn
+        library.pump_clock_turn.restype = pump.LoopTurn
         library.pump_clock_turn.argtypes = [ctypes.c_void_p, ctypes.c_int64, ctypes.c_int64]
         clock = ctypes.c_void_p(library.pump_clock_new(ctypes.c_int64(0)))
         for time in times:
@@ -85,7 +81,6 @@ class Clocks(unittest.TestCase):
         self.assertEqual(turns[2], (0, 2, 0, 0, 99 * PERIOD + 2 * PHASE))
 
 
-@with_compiler
 @with_loopback
 class Loops(InFolder):
     """A loop with sockets, which the test turns."""
@@ -96,7 +91,7 @@ class Loops(InFolder):
         self.recorder = Recorder(self.folder / "rec", 1, self.say)
         self.recorder.make()
         library = pump.load(Path(loop_library.given()))
-        parts = pump.PumpNetwork("127.0.0.1"), self.recorder, 4, self.say
+        parts = Network("127.0.0.1"), self.recorder, 4, self.say
         with unittest.mock.patch.object(pump, "MOST_WAITING", RECORD * BLOCKS):
             self.board = pump.PumpBoard(*parts, library)
         self.addCleanup(self.board.end_recordings, None)
@@ -121,6 +116,11 @@ class Loops(InFolder):
         self.board.ask(self.board.connections[call])
         self.board.when_done(period)
         return +self.board.connections[call].call.gsm.counts
+
+    def turn(self, period):
+        """A turn of the first phase, of which Python takes no events."""
+        loop, turn = self.board.pump, pump.LoopTurn(period, 0, 0, 0)
+        loop.library.pump_process(loop.pump, ctypes.byref(turn))
 
     def process(self, period):
         for phase in range(4):
@@ -154,26 +154,68 @@ class Loops(InFolder):
     def test_a_closed_port_of_the_peer_is_counted(self):
         for call, words in ((1, ""), (2, "strict off")):
             self.peers[0] = bound()
-            self.open(call, words)
+            gsm, _ = self.open(call, words)
             self.peers[0].close()
             period = 0
-            while not self.counts(call, period)["unreachable"]:
+            while (counts := self.counts(call, period))["unreachable"] < 5:
                 self.process(period)
                 period += 1
+            sent = self.board.connections[call].call.to_gsm.packets
+            self.assertLessEqual(counts["unreachable"], sent)
+            with bound() as other:  # what comes is heard all the same
+                while words and self.board.connections[call].call.gsm.heard is None:
+                    other.sendto(packet(1), ("127.0.0.1", gsm))
+                    self.process(period)
+                    self.counts(call, period)
+                    period += 1
+
+    def test_what_cant_be_sent_is_named(self):
+        gsm, pcm = even_port(), even_port()
+        sides = f"gsm {gsm} 192.0.2.1:6 pcm {pcm} 192.0.2.1:8"
+        self.board.execute(f"open 1 {sides} strict off", 0)  # no way leads there from 127.0.0.1
+        self.process(0)
+        self.assertEqual(self.counts()["unsent"], 1)
+        call = self.board.connections[1].call
+        reason = call.gsm.faults["unsent"]
+        self.assertIn(reason, ("Invalid argument", "Network is unreachable"))
+        self.assertIn(f"gsm-unsent: {reason}", call.summary("at 1"))
+
+    def test_a_call_that_cant_be_watched_is_closed(self):
+        library, gsm = self.board.pump.library, even_port()
+        sides = f"gsm {gsm} 127.0.0.1:6 pcm {even_port()} 127.0.0.1:8"
+        with unittest.mock.patch.object(library, "pump_watch", return_value=errno.ENOSPC):
+            with self.assertRaisesRegex(OSError, "No space left on device"):
+                self.board.execute(f"open 1 {sides}", 0)
+        self.assertEqual((len(self.board.pump.free), self.board.connections), (8, {}))
+        with socket.socket(socket.AF_INET, socket.SOCK_DGRAM) as one:
+            one.bind(("127.0.0.1", gsm))
+
+    def test_a_call_without_memory_is_refused(self):
+        library, sides = self.board.pump.library, "gsm 6000 127.0.0.1:6 pcm 6002 127.0.0.1:8"
+        with unittest.mock.patch.object(library, "pump_prepare", return_value=1):
+            with self.assertRaisesRegex(Refusal, "no memory for the call"):
+                self.board.execute(f"open 1 {sides}", 0)
+        self.assertEqual((len(self.board.pump.free), self.board.connections), (8, {}))
 
     def test_what_is_read_at_a_tick_is_bounded(self):
         gsm, _ = self.open()
-        for number in range(150):
-            self.peers[0].sendto(packet(number), ("127.0.0.1", gsm))
-        came = [0]
-        while came[-1] < 150:
-            self.board.process(0, 0, 0)
-            self.counts()
-            reception = self.board.connections[1].call.gsm.reception
-            came.append(reception.received if reception else 0)
-        self.assertLessEqual(
-            max(b - a for a, b in zip(came, came[1:])), MOST_PACKETS * FEWEST_SOCKETS
-        )
+        for octets, count, most in ((12, 150, 4 * 25), (8000, 12, 1500 * 25 // 8000 + 1)):
+            came = [self.counts()["not-rtp"]]
+            wanted = came[0] + count
+            for _ in range(count):
+                self.peers[0].sendto(bytes(octets), ("127.0.0.1", gsm))
+            while came[-1] < wanted:
+                self.board.process(0, 0, 0)
+                came.append(self.counts()["not-rtp"])
+            self.assertLessEqual(max(b - a for a, b in zip(came, came[1:])), most)
+
+    def test_a_datagram_of_any_size_is_taken(self):
+        gsm, pcm = self.open()
+        for octets in (0, 1, 11, 9000, 9001, 60_000):
+            for peer, port in zip(self.peers, (gsm, pcm)):
+                peer.sendto(b"\x7f" * octets, ("127.0.0.1", port))
+        while self.counts()["not-rtp"] < 6:
+            self.process(0)
 
     def test_what_is_old_is_dropped(self):
         gsm, _ = self.open()
@@ -193,7 +235,7 @@ class Loops(InFolder):
         loop, kept = self.board.pump, []
         blocks = []
         while not kept or kept[-1] != pump.OVERFLOW:
-            loop.library.pump_process(loop.pump, 0, len(kept), 0)
+            self.turn(len(kept))
             event = next(loop.events())
             kept.append(event.kind)
             if event.kind == pump.BLOCK:
@@ -201,14 +243,13 @@ class Loops(InFolder):
             self.assertLess(len(kept), 2 * BLOCKS)
         self.assertEqual([period for _, period in blocks], list(range(len(blocks))))
         self.assertEqual(len({number for number, _ in blocks}), len(blocks))
-        loop.library.pump_process(loop.pump, 0, len(kept), 0)
+        self.turn(len(kept))
         self.assertEqual(list(loop.events()), [])
 
     def test_a_loop_that_nobody_looks_after_ends_the_recording(self):
         self.open()
-        loop = self.board.pump
         for period in range(2 * BLOCKS):
-            loop.library.pump_process(loop.pump, 0, period, 0)
+            self.turn(period)
         self.board.collect()
         self.assertEqual(
             self.say.said[-1], f"recording {self.folder / 'rec'} ended: the disk is too slow"
@@ -232,10 +273,42 @@ class Loops(InFolder):
         self.assertEqual(len(self.board.pump.free), 8)
 
 
+class Counts(unittest.TestCase):
+    def test_they_go_on_modulo_2_to_the_32nd(self):
+        call, report = pump.PumpCall(Settings(1, "alaw", 256, False), 0), pump.Report()
+        far, missing = (pump.REASONS.index(name) for name in ("far", "missing"))
+        for counts in (
+            (0xFFFFFFFF, 5),
+            (2, 0xFFFFFFFE),
+        ):  # a packet came twice, so 2 fewer are missing
+            report.core[0].counts[far], report.core[0].counts[missing] = counts
+            call.take(report)
+        self.assertEqual(call.gsm.counts, {"far": 2, "missing": -2})
+
+
 class Libraries(InFolder):
+    def test_it_is_the_one_for_this_processor(self):
+        usual = self.folder / "lib" / "trau-gateway" / pump.LIBRARY
+        best = usual.parent / "glibc-hwcaps" / "x86-64-v3" / pump.LIBRARY
+        best.parent.mkdir(parents=True)
+        surroundings = {"TRAU_CLIB": str(self.folder), "TRAU_PUMP": ""}
+        with unittest.mock.patch.dict(os.environ, surroundings):
+            for is_v3 in (True, False):
+                with unittest.mock.patch.object(pump, "has_v3", return_value=is_v3):
+                    self.assertEqual(pump.library_path(), usual)  # nothing is there yet
+            usual.touch()
+            best.touch()
+            for is_v3, wanted in ((True, best), (False, usual)):
+                with unittest.mock.patch.object(pump, "has_v3", return_value=is_v3):
+                    self.assertEqual(pump.library_path(), wanted)
+
     def test_one_that_cant_be_had_is_refused(self):
-        for name, reason in (("none.so", "none.so"), (trau_fr.library_name(), "undefined symbol")):
-            words = ["gateway.py", "run", str(self.folder / "rec"), "--pump"]
+        reasons = {
+            "none.so": "packages of trau have it",
+            trau_fr.library_name(): "undefined symbol",
+        }
+        for name, reason in reasons.items():
+            words = ["gateway.py", "run", str(self.folder / "rec")]
             ran = subprocess.run(
                 [sys.executable, str(GATEWAY / words[0]), *words[1:]],
                 env={**os.environ, "TRAU_PUMP": name},
@@ -248,26 +321,19 @@ class Libraries(InFolder):
             self.assertFalse((self.folder / "rec").exists())
 
 
-@with_compiler
 @with_program
 class Again(unittest.TestCase):
-    """Tests of calls, with the loop."""
+    """The tests of calls on a turned clock, with the loop."""
 
-    def run_again(self, module):
+    def test_turned(self):
         ran = subprocess.run(
-            [sys.executable, str(TESTS / module)],
+            [sys.executable, str(TESTS / "test_turned.py")],
             env=loop_library.environment(),
             stdout=subprocess.PIPE,
             stderr=subprocess.STDOUT,
             text=True,
         )
         self.assertEqual(ran.returncode, 0, ran.stdout)
-
-    def test_turned(self):
-        self.run_again("test_turned.py")
-
-    def test_live(self):
-        self.run_again("test_live.py")
 
 
 if __name__ == "__main__":

@@ -24,7 +24,9 @@ from support import (
 )
 
 from trau import trau_fr
+from trau.command_line.words import Refusal
 from trau.gateway.calls import SILENCE
+from trau.gateway.live import begin
 from trau.gateway.rtp import ALAW, GSM, MULAW
 from trau.rules.profile import MOST_ORDERS
 from spoiler import Faults, schedule
@@ -207,7 +209,10 @@ class Kinds(InFolder):
 
 
 class Bridges(InFolder):
-    def assert_replays_if_it_ends_at_once(self, line):
+    """A bridge has at least one period: what would end it before waits until that is done."""
+
+    def spoken(self):
+        """A gateway with speech for two calls."""
         turned = Turned(self.folder / "rec")
         for call in (1, 2):
             turned.bring(
@@ -215,16 +220,53 @@ class Bridges(InFolder):
                 schedule(SPEECH[:60], GSM, call),
                 schedule(repeated(LINE, 60, 9 * call), ALAW, call + 9),
             )
-        turned.run({0: [open_line(1), open_line(2)], 20: ["bridge 1 2", line]}, 60)
+        return turned
+
+    def orders(self):
+        """The orders of the recording but those of `open`."""
+        orders = (self.folder / "rec/orders.txt").read_text().splitlines()
+        return [order for order in orders if order.split()[1] not in ("open", "level", "dtx")]
+
+    def said_if_it_ends_at_once(self, *lines):
+        """What is said from the period on in which the bridge begins."""
+        lines = {0: [open_line(1), open_line(2)], 20: ["bridge 1 2", *lines]}
+        said = self.spoken().run(lines, 60)
+        return said[said.index("ok 20 bridge 1") :]
+
+    @with_program
+    def test_its_end_waits_for_the_first_period(self):
+        said = self.said_if_it_ends_at_once("unbridge 1", "level 2 900", "bridge 1 2", "counts 1")
+        refused = "refused 21 bridge 1 2: its bridge ended in this very period"
+        wanted = ["ok 20 bridge 1", "ok 21 unbridge 1", "ok 21 level 2", refused]
+        self.assertEqual(said[:4], wanted)
+        self.assertEqual(self.orders()[:2], ["20 bridge 1 2", "21 unbridge 1"])
         self.assert_replays(self.folder / "rec")
 
     @with_program
-    def test_a_bridge_that_is_ended_in_the_period_in_which_it_began(self):
-        self.assert_replays_if_it_ends_at_once("unbridge 1")
+    def test_the_close_of_its_call_waits_for_the_first_period(self):
+        said = self.said_if_it_ends_at_once("close 1", "counts 2")
+        self.assertEqual([said[2], said[4]], ["ok 21 close 1", "ok 21 counts 2"])
+        self.assertEqual(self.orders()[:2], ["20 bridge 1 2", "21 close 1"])
+        self.assert_replays(self.folder / "rec")
 
     @with_program
-    def test_a_bridge_whose_call_is_closed_in_the_period_in_which_it_began(self):
-        self.assert_replays_if_it_ends_at_once("close 1")
+    def test_the_end_of_the_gateway_waits_for_the_first_period(self):
+        turned = self.spoken()
+        for line in (open_line(1), open_line(2), "bridge 1 2"):
+            turned.board.execute(line, 0)
+        turned.run({}, 0)
+        self.assertEqual(self.orders(), ["0 bridge 1 2", "1 close 1", "1 close 2"])
+        for side, octets in (("up", 40), ("out", 160)):
+            self.assertEqual((self.folder / f"rec/1.{side}").stat().st_size, octets)
+        self.assert_replays(self.folder / "rec")
+
+    def test_before_the_first_period_it_cant_end(self):
+        turned, calls = Turned(self.folder / "rec"), self.folder / "calls"
+        lines = [open_line(1), open_line(2), "bridge 1 2", "unbridge 2"]
+        calls.write_text("".join(f"{line}\n" for line in lines))
+        with self.assertRaisesRegex(Refusal, "line 4: the bridge has had no period$"):
+            begin(turned.board, calls)
+        self.assertFalse((self.folder / "rec").exists())
 
 
 class Quiet(InFolder):

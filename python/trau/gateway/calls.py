@@ -2,11 +2,13 @@
 is made.
 
 What is decided here is what is recorded: one frame of Up and 160 octets of Pcm a period,
-whatever the network did.
+whatever the network did. The gateway has its calls processed by a proved library (pump.py), and
+takes only a call's settings and counts from here: the rules are the oracle of the tests.
 """
 
 from __future__ import annotations
 
+import sys
 from collections import Counter, defaultdict
 from functools import lru_cache
 from typing import Callable, Container, DefaultDict, Dict, NamedTuple, Optional, Tuple
@@ -33,6 +35,7 @@ BLOCK_MAXIMA = (
 STILL_AFTER = 250  # periods without a packet, 5 s
 SILENCE = trau_fr.Receiver().hand(None)  # a receiver that is quiet hands over the frame of silence
 NO_FRAME = bytes(OCTETS)
+NEVER, NOT_YET = -1, sys.maxsize  # periods of what hasn't been, and of what a line has asked for
 NO_FAULTS = {"packets", "rtcp", "rtcp-sent", "far-lost"}  # counts
 SPEECH, DESCRIPTOR, LOST, IDLE = Kind.SPEECH, Kind.DESCRIPTOR, Kind.LOST, Kind.IDLE
 COUNTED = ("speech", "descriptor", "invalid")  # a frame, by its kind
@@ -119,7 +122,7 @@ class LiveCall:
         self.up = self.out = self.handed = b""
         self.is_quiet = True
         self.partner: Optional[LiveCall] = None
-        self.parted: Optional[int] = None  # the period at which its last bridge ended
+        self.bridged = self.parted = NEVER  # the periods at which its last bridge began and ended
         self.counts: DefaultDict[str, int] = defaultdict(int)
 
     def frame_of(self, period: int) -> Optional[bytes]:
@@ -180,7 +183,7 @@ class LiveCall:
 
     def answer(self, period: int, send_gsm: Send) -> bytes:
         """The downlink of a bridge, or of a quiet call: an idle frame, and nothing is sent. The
-        sender is at home in both."""
+        sender is at home after both. As a bridge has a period, it needs no other reset."""
         self.sender = self.pause = None
         if self.partner is None:
             self.to_gsm.after_gap = True
@@ -198,12 +201,6 @@ class LiveCall:
         if self.pause is None or self.pause % TAF_PERIODS == 0:
             send_gsm(self.to_gsm.packet(period, octets, is_speech))
         return trau_fr.write_downlink(octets, SPEECH if is_speech else DESCRIPTOR)
-
-    def begin_bridge(self) -> None:
-        """A bridge resets both coders and DTX when it begins, also if it ends before its first
-        period."""
-        self.sender = self.pause = None
-        self.receiver.begin_bridge()
 
     def give_up(self, periods: int, tick: int) -> None:
         """The clock has given up time."""

@@ -82,7 +82,6 @@ def words_of(given: Sequence[str]) -> argparse.Namespace:
         metavar="N",
         help="calls that may be open at a time (200)",
     )
-    run.add_argument("--pump", action="store_true", help=argparse.SUPPRESS)  # the loop in C
     check = commands.add_parser("check", help="replays a recording by `trau run`, and compares")
     check.add_argument("folder", type=Path, metavar="FOLDER", help="the recording")
     check.add_argument(
@@ -107,7 +106,6 @@ def main(given: Sequence[str]) -> int:
 
     return live.run(
         live.Options(
-            *(words.folder, words.calls, words.address, words.seconds, words.every, words.most),
-            words.pump,
+            *(words.folder, words.calls, words.address, words.seconds, words.every, words.most)
         )
     )

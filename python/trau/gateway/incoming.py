@@ -1,4 +1,6 @@
-"""One incoming stream: whose packets are taken, and where in the jitter buffer they belong."""
+"""One incoming stream: whose packets are taken, and where in the jitter buffer they belong. The
+rules are the oracle of the tests, as in calls.py; the gateway takes only counts from here.
+"""
 
 from __future__ import annotations
 
@@ -13,6 +15,7 @@ from trau.gateway.rtp import HEADER, SAMPLES, PacketRefused
 
 MOST_FAULT = 80  # characters that name one
 STILL = 2  # periods beyond the depth after which a source that brought nothing is still
+PROBATION = 5  # ticks for which a source on probation keeps its place
 
 
 class Incoming:
@@ -29,8 +32,8 @@ class Incoming:
         self.faults: Dict[str, str] = {}  # what the latest ones were, by the count
         self.source: Optional[int] = None
         self.reception: Optional[Reception] = None  # what came of it
-        # Another source, and the number that it must bring next.
-        self.probation: Optional[Tuple[int, int]] = None
+        # Another source, the number that it must bring next, and since which tick.
+        self.probation: Optional[Tuple[int, int, int]] = None
         self.jump: Optional[Tuple[int, int]] = None  # number and stamp with which a jump goes on
         self.stamp = self.position = 0  # a time stamp, and its place in samples from the first one
         self.heard: Optional[int] = None  # the tick of the last packet that was taken
@@ -114,9 +117,9 @@ class Incoming:
         """Another source has to bring two packets in a row (RFC 3550, A.1) while the present one is
         still: of two at once, one is heard."""
         if self.source is not None:
-            is_next = self.probation == (source, number)
-            self.probation = source, number + 1 & rtp.NUMBERS
+            is_next = self.probation is not None and self.probation[:2] == (source, number)
             if not is_next or not self.is_still(tick):
+                self.probation = self.on_probation(source, number, tick)
                 raise PacketRefused("probation")
             self.counts["new-source"] += 1
         self.counts.update(self.came())
@@ -124,6 +127,18 @@ class Incoming:
         self.reception = reception = Reception(source, number)
         self.begin(stamp, tick + behind)
         return reception
+
+    def on_probation(self, source: int, number: int, tick: int) -> Tuple[int, int, int]:
+        """What is on probation after a packet of another source. It keeps its place for 0.1 s, so
+        of several new sources at once one is heard."""
+        since = tick
+        if self.probation:
+            other, _, began = self.probation
+            if other == source:
+                since = began
+            elif tick - began < PROBATION:
+                return self.probation
+        return source, number + 1 & rtp.NUMBERS, since
 
     def is_still(self, tick: int) -> bool:
         """Whether the present source has brought nothing for some periods, and all that it brought
@@ -153,7 +168,7 @@ class Incoming:
         period, part = divmod(place + self.half, SAMPLES)
         margin = period - self.buffer.shift - tick
         if self.stale:
-            self.refuse_stale(margin, tick)
+            self.refuse_stale(margin, tick, behind)
         if not -LIMIT <= margin <= LIMIT + behind:
             if self.jump != (number, stamp):
                 self.jump = number + 1 & rtp.NUMBERS, stamp + samples & rtp.STAMPS
@@ -178,9 +193,10 @@ class Incoming:
         self.buffer.give_up(periods, tick)
         self.stale, self.stale_until = self.stale + periods, tick + LIMIT
 
-    def refuse_stale(self, margin: int, tick: int) -> None:
-        """Refuses packets of time that was given up, until one comes that isn't, or for a second."""
-        if margin >= 0 or tick >= self.stale_until:
+    def refuse_stale(self, margin: int, tick: int, behind: int) -> None:
+        """Refuses packets of time that was given up, until one comes that is neither late nor far
+        away, or for a second."""
+        if 0 <= margin <= LIMIT + behind or tick >= self.stale_until:
             self.stale = 0
-        elif margin >= -self.stale - LIMIT:
+        elif -self.stale - LIMIT <= margin < 0:
             raise PacketRefused("given-up")

@@ -4,7 +4,7 @@ is played at which tick.
 A sender's period p is played at tick p - shift. Its *margin* is the number of ticks until then.
 What is played at a place of a period is the first octet that came for it in time, or the filler.
 The path's delay and the sender's clock change; so now and then a period is left out (a slip on)
-or one without content is put in (a slip back).
+or one without content is put in (a slip back). The rules are the oracle of the tests, as in calls.py.
 """
 
 from __future__ import annotations
@@ -98,7 +98,7 @@ class JitterBuffer:
         if not places:
             return "doubled"
         margin = period - self.shift - tick
-        if is_watched:
+        if is_watched and tick >= self.watched_from:
             self.margins.append(margin)
         if margin < 0:
             if is_watched:
@@ -118,13 +118,14 @@ class JitterBuffer:
     def follow(self, margin: int, tick: int) -> None:
         """A packet that is newer than all before has come, with this margin. If it is the second
         late one in a row, the path got longer, or the sender is slow: the playing moves, so that
-        the packet waits `depth` ticks, as the first one did."""
+        the packet waits `depth` ticks, as the first one did. If the path only stalled, the rest of
+        what it held comes within as many ticks as the playing moved, and isn't watched."""
         is_late = margin < 0
         if is_late and self.was_late:
             self.counts["slips-back"] += self.depth - margin
             self.shift += margin - self.depth
             self.owed, is_late = 0, False
-            self.watch_anew(tick)
+            self.watch_anew(tick + self.depth - margin)
         self.was_late = is_late
 
     def straggle(self, margin: int, tick: int) -> None:

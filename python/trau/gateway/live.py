@@ -19,13 +19,18 @@ from collections import deque
 from pathlib import Path
 from typing import Deque, List, NamedTuple, Optional, Tuple
 
-from trau.gateway import pump
 from trau.gateway.clock import PHASES, Clock, Turn
 from trau.command_line.words import Refusal
 from trau.rules.profile import PERIODS_A_SECOND
 from trau.gateway.network import Network
+from trau.gateway.pump import PumpBoard, PumpClock, library_path, load
 from trau.gateway.recorder import Recorder
-from trau.gateway.switchboard import DESCRIPTORS_OF_CALL, DESCRIPTORS_OF_REST, Switchboard
+from trau.gateway.switchboard import (
+    DESCRIPTORS_OF_CALL,
+    DESCRIPTORS_OF_REST,
+    Switchboard,
+    TooSoon,
+)
 from trau.command_line.ends import complain, naming
 
 MOST_LINES = 50  # that are executed in a period
@@ -48,7 +53,6 @@ class Options(NamedTuple):
     seconds: Optional[int]
     every: int
     most_calls: int
-    pump: bool
 
 
 def printable(text: str) -> bytes:
@@ -154,8 +158,9 @@ class Gateway:
         """Ends the gateway at the next period; for signals."""
         self.is_to_end = True
 
-    def obey(self, line: str, period: int) -> None:
-        """Executes a line in a period, and says whether it was."""
+    def obey(self, line: str, period: int) -> bool:
+        """Executes a line in a period, and says whether it was. The result is whether it doesn't
+        wait for the next one."""
         try:
             if len(line.encode("utf-8", "surrogateescape")) > MOST_LINE:
                 raise Refusal("the line is too long")
@@ -170,9 +175,12 @@ class Gateway:
                 self.board.execute(line, period)
             words = " ".join(line.split()[:2])
             self.board.when_done(period, lambda at: self.say(f"ok {at} {words}"))
+        except TooSoon:
+            return False
         except (Refusal, OSError) as refused:
             reason = getattr(refused, "strerror", None) or str(refused)
             self.board.when_done(period, lambda at: self.refuse(line, reason, at))
+        return True
 
     def refuse(self, line: str, reason: str, period: int) -> None:
         """Says that a line was refused."""
@@ -203,8 +211,8 @@ class Gateway:
             if late > PERIODS_A_SECOND * PHASES // 2:  # most turns
                 self.busy_until = turn.period + PERIODS_A_SECOND
         self.lines.extend(() if self.lines else self.commands.taken())
-        while self.lines and self.board.is_ready:
-            self.obey(self.lines.popleft(), turn.period)
+        while self.lines and self.board.is_ready and self.obey(self.lines[0], turn.period):
+            self.lines.popleft()
         self.board.look_after(turn.period)
 
     def run(self, periods: Optional[int]) -> Tuple[int, bool]:
@@ -287,26 +295,24 @@ def heed_signals(gateway: Gateway) -> None:
         signal.signal(number, signal.SIG_IGN)
 
 
-def parts_of(options: Options, periods: Optional[int], say: Speaker) -> Tuple[Switchboard, Clock]:
-    """The switchboard and its clock, in Python or over the loop in C."""
-    library = pump.load(pump.library_path()) if options.pump else None
+def board_of(options: Options, say: Speaker) -> PumpBoard:
+    """The switchboard over the loop in C."""
+    library = load(library_path())
     with naming(options.folder):
         recorder = Recorder(options.folder, options.every, say)
         recorder.make()
     calls = most_calls(options.most_calls)
-    if library is None:
-        return Switchboard(Network(options.address), recorder, calls, say), Clock()
-    board = pump.PumpBoard(pump.PumpNetwork(options.address), recorder, calls, say, library)
-    return board, pump.PumpClock(board.pump, periods)
+    return PumpBoard(Network(options.address), recorder, calls, say, library)
 
 
 def run(options: Options) -> int:
     """Runs the gateway. Status 0, or 1 if the recording ended before."""
     say = Speaker()
     periods = None if options.seconds is None else options.seconds * PERIODS_A_SECOND
-    board, clock = parts_of(options, periods, say)
+    board = board_of(options, say)
     board.most_descriptors = most_descriptors(0)
-    gateway = Gateway(board, clock, Commands(None if sys.stdin is None else 0), say)
+    commands = Commands(None if sys.stdin is None else 0)
+    gateway = Gateway(board, PumpClock(board.pump, periods), commands, say)
     begin(board, options.calls)
     heed_signals(gateway)
     gc.collect()

@@ -1,31 +1,23 @@
-"""The sockets of the calls. They are read at the ticks alone; between them the kernel holds what
-comes.
+"""The sockets of the calls, and whom they hear. The loop in C reads them at the ticks alone; between
+them the kernel holds what comes.
 """
 
 from __future__ import annotations
 
 import contextlib
-import select
 import socket
 import struct
 import time
-from typing import Callable, Dict, Iterator, List, Optional, Tuple
+from typing import Iterator, Optional, Tuple
 
-from trau.gateway.clock import PHASES
 from trau.gateway.incoming import Incoming
 from trau.gateway.rtcp import Reports, is_control
 from trau.gateway.settings import Address, Side
 
 RECEIVE_BUFFER = 208 * 1024  # octets of the kernel for a socket, some seconds of packets
 CONTROL_BUFFER = 8 * 1024  # octets of the kernel for a socket of RTCP
-# That are read at a tick for each socket of a phase, by all of them together.
-MOST_PACKETS, MOST_OCTETS = 4, 1500
-FEWEST_SOCKETS = 25  # for which is read in any case
-MOST_DATAGRAM = 9000  # octets, more than a second of A-law
 EXPEDITED = 0xB8  # the octet of the IP header that asks for expedited forwarding (RFC 3246)
 MOST_CONTROL = 100  # datagrams of RTCP, or of strangers, that are read at a time
-MOST_DROPPING = 100_000_000  # nanoseconds in which old datagrams are dropped, as time is given up,
-DROPPING_AT_A_TICK = 1_000_000  # and at each tick of a phase from then on
 MOST_OLD = 2000  # datagrams that a socket may hold
 # SO_MEMINFO of Linux, and the number in it that says how many datagrams found no room.
 MEMORY, DROPS = 55, 8
@@ -195,17 +187,6 @@ class SocketEndpoint(Endpoint):
                 continue
             counts["other-address" if sender == self.peer else "stranger"] += 1
 
-    def drop(self) -> None:
-        """Drops what came up to now."""
-        for _ in range(MOST_OLD):
-            try:
-                data, sender = self.receive()
-            except BlockingIOError:
-                return
-            except OSError:  # an ICMP answer
-                continue
-            self.outdated(data, sender)
-
     def came_to_control(self) -> Iterator[Tuple[bytes, Address, int]]:
         """What came to the port above, which is that of RTCP (RFC 3550, section 11): each datagram,
         its sender, and when it came."""
@@ -243,129 +224,22 @@ class SocketEndpoint(Endpoint):
                 )
                 self.incoming.counts["rtcp-sent"] += 1
 
-    def count_errors(self) -> None:
-        """Counts some ICMP answers in the queue of a call that isn't strict, where they else take
-        the room of packets."""
-        with contextlib.suppress(OSError):
-            for _ in range(MOST_PACKETS):
-                self.socket.recvmsg(0, 0, socket.MSG_ERRQUEUE)
-                self.incoming.counts["unreachable"] += 1
-
-    def receive(self) -> Tuple[bytes, Address]:
-        """The next datagram, and who sent it. Once a strict peer was heard, what comes is of it
-        alone, and nobody asks the kernel."""
-        if self.is_strict and self.sender:
-            return self.socket.recv(MOST_DATAGRAM), self.sender
-        return self.socket.recvfrom(MOST_DATAGRAM)
-
     def close(self) -> None:
         """Closes the sockets."""
         self.opened.close()
 
-    def send(self, datagram: bytes) -> None:
-        """Sends to the peer; what can't be sent is counted and gone."""
-        for is_last in (False, True):  # at first, an ICMP answer to an earlier packet may fail
-            try:
-                if self.is_strict:  # it is connected, which spares the kernel a search for the way
-                    self.socket.send(datagram)
-                else:
-                    self.socket.sendto(datagram, self.peer)
-                return
-            except OSError as failure:
-                if self.is_strict and isinstance(failure, ConnectionRefusedError):
-                    self.incoming.counts["unreachable"] += 1  # else it is in the queue too
-                if is_last:
-                    self.incoming.fail("unsent", failure)
-
 
 class Network:
-    """The endpoints by phases."""
+    """The sockets of the calls, which the loop reads."""
 
-    def __init__(self, address: str, now: Callable[[], int] = time.monotonic_ns) -> None:
-        """Sockets are bound to this address, if their side of a call names no other. `now` gives
-        the time in nanoseconds."""
+    def __init__(self, address: str) -> None:
+        """Sockets are bound to this address, if their side of a call names no other."""
         self.address = address
-        self.polls = [select.epoll() for _ in range(PHASES)]
-        self.sockets = [0] * PHASES  # how many each phase has
-        self.endpoints: Dict[int, SocketEndpoint] = {}  # by their descriptors
-        self.old: Dict[int, SocketEndpoint] = {}  # of which what came is to be dropped first
-        self.now = now
 
-    def open(self, side: Side, is_strict: bool, incoming: Incoming, phase: int) -> SocketEndpoint:
-        """Opens one side of a call. Raises OSError if the port can't be had, or not be watched."""
-        endpoint = SocketEndpoint(side.host or self.address, side, is_strict, incoming)
-        try:
-            self.attach(endpoint, phase)
-        except OSError:
-            endpoint.close()
-            raise
-        self.endpoints[endpoint.socket.fileno()] = endpoint
-        return endpoint
+    def open(self, side: Side, is_strict: bool, incoming: Incoming, _phase: int) -> SocketEndpoint:
+        """Opens one side of a call. Raises OSError if the port can't be had."""
+        return SocketEndpoint(side.host or self.address, side, is_strict, incoming)
 
-    def attach(self, endpoint: SocketEndpoint, phase: int) -> None:
-        """Reads an endpoint in this phase."""
-        self.polls[phase].register(endpoint.socket, select.EPOLLIN)
-        self.sockets[phase] += 1
-
-    def detach(self, endpoint: SocketEndpoint, phase: int) -> None:
-        """Reads an endpoint in this phase no longer."""
-        self.polls[phase].unregister(endpoint.socket)
-        self.sockets[phase] -= 1
-
-    def move(self, endpoint: SocketEndpoint, old: int, new: int) -> None:
-        """Reads an endpoint in another phase from now on."""
-        self.detach(endpoint, old)
-        self.attach(endpoint, new)
-
-    def close(self, endpoint: SocketEndpoint, phase: int) -> None:
+    def close(self, endpoint: SocketEndpoint, _phase: int) -> None:
         """Closes one side of a call."""
-        self.detach(endpoint, phase)
-        del self.endpoints[endpoint.socket.fileno()]
-        self.old.pop(endpoint.socket.fileno(), None)
         endpoint.close()
-
-    def drop(self) -> None:
-        """Drops what came up to now for all calls, as far as there is time for it; `read` drops the
-        rest."""
-        self.old = dict(self.endpoints)
-        self.drop_old(MOST_DROPPING)
-
-    def drop_old(self, most: int) -> None:
-        """Drops what is old of one socket after another, for so many nanoseconds at most."""
-        until = self.now() + most
-        while self.old and self.now() < until:
-            _, endpoint = self.old.popitem()
-            endpoint.drop()
-
-    def read(self, phase: int, tick: int, behind: int) -> None:
-        """Takes what has come for the calls of a phase, and then drops some of what is still old."""
-        self.read_new(phase, tick, behind)
-        if self.old:
-            self.drop_old(DROPPING_AT_A_TICK)
-
-    def ready(self, phase: int) -> List[Tuple[int, int]]:
-        """The descriptors of a phase at which something new has come, and their events."""
-        ready = self.polls[phase].poll(0)
-        return [each for each in ready if each[0] not in self.old] if self.old else ready
-
-    def read_new(self, phase: int, tick: int, behind: int) -> None:
-        """Takes what has come for the calls of a phase: one packet a socket in turn, so that a
-        flood starves nobody. What is beyond the bounds waits for the next tick."""
-        sockets = max(self.sockets[phase], FEWEST_SOCKETS)
-        packets, octets = MOST_PACKETS * sockets, MOST_OCTETS * sockets
-        while packets > 0 and octets > 0 and (ready := self.ready(phase)):
-            packets -= len(ready)
-            for descriptor, events in ready:
-                endpoint = self.endpoints[descriptor]
-                if events & select.EPOLLERR and not endpoint.is_strict:
-                    endpoint.count_errors()
-                try:
-                    data, sender = endpoint.receive()
-                except BlockingIOError:
-                    continue
-                except OSError:  # an ICMP answer to what was sent
-                    if endpoint.is_strict:  # else it is in the queue too
-                        endpoint.incoming.counts["unreachable"] += 1
-                    continue
-                octets -= len(data)
-                endpoint.arrived(data, sender, tick, behind)

@@ -11,32 +11,38 @@ import ctypes
 import os
 import socket
 import struct
-from collections import Counter, deque
+from collections import deque
 from pathlib import Path
-from typing import Any, Callable, Deque, Dict, Iterator, List, Optional, Tuple, Type
+from typing import Any, Deque, Dict, Iterator, List, Optional, Tuple, Type
 
-from trau import trau_fr
 from trau.command_line.words import Refusal
-from trau.gateway.calls import LiveCall, kinds_of
+from trau.gateway.calls import LiveCall
 from trau.gateway.clock import Clock, Turn
 from trau.gateway.incoming import Incoming
 from trau.gateway.network import Network, SocketEndpoint
 from trau.gateway.recorder import MOST_WAITING, Recorder
 from trau.gateway.rtcp import Reception, signed
 from trau.gateway.settings import Settings
-from trau.gateway.switchboard import Connection, Say, Switchboard
+from trau.gateway.switchboard import Connection, Say, Switchboard, Work
 from trau.rules.lines import OCTETS_OF_SIDE, SIDES
 from trau.rules.profile import PERIODS_A_SECOND
 
+# Of this clone or package, and of installed packages; below them, what clib/build makes.
+TOPS = Path(__file__).resolve().parents[3], Path("/usr/local/lib/trau"), Path("/usr/lib/trau")
+FOLDER, LIBRARY = Path("lib", "trau-gateway"), "libtrau_pump.so.1"
+NEEDED_BY_V3 = set("avx avx2 bmi1 bmi2 f16c fma abm movbe".split())  # as Linux names them
 NAMES = "gsm", "pcm"  # the sides of a call, as the loop numbers them
 NOTHING, OPEN, SET, BRIDGE, PART, REPORT, CLOSE = range(7)  # verbs of commands
 ANSWER, BLOCK, GAVE_UP, OVERFLOW = range(1, 5)  # kinds of events
+BEGUN = 0  # what trau_call_begin answers
+LAWS = "alaw", "mulaw"  # as the core numbers them
 # The counts of a side in the order of trau_call.h; the first one is of what was taken.
 REASONS = (
     "taken not-rtp rtcp other-type empty odd-size too-long probation given-up far doubled late"
     " new-source jumps off-the-grid slips-on slips-back packets missing"
 ).split()
 ENDS = "stranger", "other_port", "given_up", "unreachable", "unsent", "moved"
+COUNTED = [*REASONS[1:], *(name.replace("_", "-") for name in ENDS)]
 PERIODS = "speech", "descriptor", "invalid", "not-gsm", "no-gsm", "no-pcm"
 MOST_COMMANDS = 1024  # that may wait, besides one for each slot
 FOREVER = 0xFFFFFFFF  # a period that never comes
@@ -57,8 +63,8 @@ def _structure(name: str, **fields: Any) -> Any:
     return type(name, (ctypes.Structure,), {"_fields_": list(fields.items())})
 
 
-_CoreReports = _structure(
-    "_CoreReports",
+CoreReports = _structure(
+    "CoreReports",
     counts=_u32 * len(REASONS),
     periods=_u32 * len(PERIODS),
     **dict.fromkeys(
@@ -70,7 +76,7 @@ _CoreReports = _structure(
 _EndCounts = _structure(
     "_EndCounts", **dict.fromkeys(ENDS, _u32), failure=_i32, host=_u8 * 4, port=_u8 * 2
 )
-_Report = _structure("_Report", core=_CoreReports * 2, ends=_EndCounts * 2, held_up=_u32)
+Report = _structure("Report", core=CoreReports * 2, ends=_EndCounts * 2, held_up=_u32)
 _Command = _structure("_Command", verb=_u32, slot=_u32, other=_u32, phase=_u32, level=_i16, dtx=_u8)
 _End = _structure(
     "_End", socket=_i32, host=_u8 * 4, port=_u8 * 2, is_strict=_u8, is_any=_u8, is_connected=_u8
@@ -83,38 +89,57 @@ _State = _structure(
     latest=_i64,
 )
 
+_Settings = _structure(
+    "_Settings",
+    **dict.fromkeys("number law depth".split(), _u32),
+    **dict.fromkeys("prime gsm pcm".split(), _u8),
+    random=_u8 * 20,
+)
+LoopTurn = _structure("LoopTurn", period=_u32, phase=_u32, behind=_u32, given_up=_u32)
+_SIZED = Report, _Command, _End, _Event, _Block, _State, _Settings
+
 _pointer, _text = ctypes.c_void_p, ctypes.c_char_p
 _FUNCTIONS: Dict[str, Tuple[Any, ...]] = {  # the result, then the arguments
     "pump_new": (_pointer, _u32, _u32, _u32, _u32),
     "pump_free": (None, _pointer),
-    "pump_stage": (_u32, _pointer, _pointer),
+    "pump_stage": (ctypes.c_bool, _pointer, _pointer),
     "pump_publish": (None, _pointer),
     "pump_take_event": (ctypes.c_bool, _pointer, _pointer),
     "pump_report_of": (None, _pointer, _u32, _pointer),
     "pump_block_of": (ctypes.POINTER(_Block), _pointer, _u32),
     "pump_return_block": (None, _pointer, _u32),
-    "pump_prepare": (
-        *(ctypes.c_bool, _pointer, _u32, _u32, _u32, _u32, ctypes.c_bool),
-        *(_text, _pointer, ctypes.c_bool),
-    ),
+    "pump_prepare": (_u32, _pointer, _u32, _pointer, _pointer, ctypes.c_bool),
     "pump_dismiss": (None, _pointer, _u32),
     "pump_watch": (ctypes.c_int, _pointer, _u32, _u32, _u32),
-    "pump_call_of": (_pointer, _pointer, _u32),
     "pump_start": (ctypes.c_int, _pointer, _u32, ctypes.c_int),
     "pump_stop": (_u32, _pointer),
     "pump_state": (None, _pointer, _pointer),
-    "pump_lately": (_i64, _pointer),
     "pump_execute": (None, _pointer, _u32),
-    "pump_process": (None, _pointer, _u32, _u32, _u32),
-    "pump_give_up": (None, _pointer, _u32, _u32),
-    "pump_arrived": (None, _pointer, _u32, _u32, _text, _u32, _u32, _u16, _u32, _u32),
+    "pump_process": (None, _pointer, _pointer),
+    "pump_give_up": (None, _pointer, _pointer),
+    "pump_arrived": (None, _pointer, _u32, _u32, _text, ctypes.c_size_t, _u32, _u16, _pointer),
 }
 
 
+def has_v3() -> bool:
+    """Whether this machine's processor is one of x86-64-v3."""
+    try:
+        return NEEDED_BY_V3 <= set(Path("/proc/cpuinfo").read_text().split())
+    except OSError:
+        return False
+
+
 def library_path() -> Path:
-    """The loop's library: the one that TRAU_PUMP names, or the one beside the C library."""
-    beside = Path(trau_fr.library_name()).with_name("libtrau_pump.so.1")
-    return Path(os.environ.get("TRAU_PUMP") or beside)
+    """The loop's library: the one that TRAU_PUMP names, or the one for this processor in the folder
+    that TRAU_CLIB names, or else in clib/out of this clone or package, or of an installed one."""
+    if named := os.environ.get("TRAU_PUMP"):
+        return Path(named)
+    built = os.environ.get("TRAU_CLIB")
+    places = [Path(built)] if built else [top / "clib" / "out" for top in TOPS]
+    found = [place / FOLDER / LIBRARY for place in places]
+    library = next((each for each in found if each.exists()), found[0])
+    best = library.parent / "glibc-hwcaps" / "x86-64-v3" / LIBRARY
+    return best if has_v3() and best.exists() else library
 
 
 def load(path: Path) -> ctypes.CDLL:
@@ -125,15 +150,13 @@ def load(path: Path) -> ctypes.CDLL:
         for name, (result, *arguments) in _FUNCTIONS.items():
             function = getattr(library, name)
             function.restype, function.argtypes = result, arguments
-        built = list((_u32 * 6).in_dll(library, "pump_sizes"))
+        built = list((_u32 * len(_SIZED)).in_dll(library, "pump_sizes"))
     except (OSError, AttributeError, ValueError) as failure:
-        raise Refusal(f"the library of the loop: {failure}") from None
-    if built != [ctypes.sizeof(each) for each in (_Report, _Command, _End, _Event, _Block, _State)]:
-        raise Refusal(f"the library of the loop: {path} is of another version")
+        made = "clib/build of a clone makes it, and packages of trau have it"
+        raise Refusal(f"the library of the gateway's calls: {failure}; {made}") from None
+    if built != list(map(ctypes.sizeof, _SIZED)):
+        raise Refusal(f"the library of the gateway's calls: {path} is of another version")
     return library
-
-
-Work = Callable[[int], object]
 
 
 class Pump:
@@ -174,7 +197,7 @@ class Pump:
 
     def report(self, number: int) -> Any:
         """The counts in the answer to a command, when it has come."""
-        report = _Report()
+        report = Report()
         self.library.pump_report_of(self.pump, number & 0xFFFFFFFF, ctypes.byref(report))
         return report
 
@@ -231,16 +254,12 @@ class PumpClock(Clock):
         """The share of its time, in per cent, in which the loop didn't wait."""
         return self.percent
 
-    def report(self) -> int:
-        """How many nanoseconds late a turn was at most since the last report."""
-        return int(self.pump.library.pump_lately(self.pump.pump))
-
     def look(self) -> Turn:
         """Takes over the loop's clock."""
         state = self.pump.state()
         given_up = state.given_up - self.given_up
-        self.late, self.given_up, self.latest = state.late, state.given_up, state.latest
-        self.percent = state.load
+        self.late, self.given_up, self.percent = state.late, state.given_up, state.load
+        self.lately = max(self.lately, state.latest)
         period = state.period + (not state.has_ended)
         return Turn(period, 0, state.behind, given_up)
 
@@ -252,19 +271,13 @@ class PumpClock(Clock):
             yield self.look()
 
 
-class PumpNetwork(Network):
-    """The sockets, which the loop reads."""
-
-    def attach(self, endpoint: SocketEndpoint, phase: int) -> None:
-        """The loop watches it."""
-
-    def detach(self, endpoint: SocketEndpoint, phase: int) -> None:
-        """The loop has ceased to watch it."""
-
-
-def risen(now: Counter[str], before: Counter[str]) -> Counter[str]:
-    """How far counts have risen, or fallen."""
-    return Counter({name: now[name] - before[name] for name in now if now[name] != before[name]})
+def beginning_of(call: LiveCall) -> Any:
+    """What the core of a call begins with; random are the first numbers, stamps and sources of what
+    is sent to both sides."""
+    outs = (call.to_gsm, call.to_pcm)
+    first = b"".join(struct.pack(">HII", out.number, out.stamp, out.source) for out in outs)
+    settings = call.number, LAWS.index(call.law), call.gsm.buffer.depth, call.is_to_prime
+    return _Settings(*settings, *(out.kind for out in outs), (_u8 * 20)(*first))
 
 
 class PumpCall(LiveCall):
@@ -273,18 +286,11 @@ class PumpCall(LiveCall):
     def __init__(self, settings: Settings, start: int) -> None:
         super().__init__(settings, start)
         self.slot: Optional[int] = None
-        self.types = kinds_of(settings) if settings.types else None
-        self.depth = settings.depth
-        self.reported = {side: Counter[str]() for side in NAMES}  # counts of the last report
+        self.reported = {side: [0] * len(COUNTED) for side in NAMES}  # counts of the last report
 
     def begin(self, period: int) -> None:
         """The loop has begun it in this period."""
         self.start = period
-
-    def random(self) -> bytes:
-        """The first numbers, stamps and sources of what is sent to both sides."""
-        outs = (self.to_gsm, self.to_pcm)
-        return b"".join(struct.pack(">HII", out.number, out.stamp, out.source) for out in outs)
 
     def take(self, report: Any) -> None:
         """Takes over the counts of a report."""
@@ -304,12 +310,15 @@ class PumpCall(LiveCall):
         self.counts.update({name: count for name, count in counts.items() if count})
 
     def take_counts(self, side: str, incoming: Incoming, core: Any, end: Any) -> None:
-        """Adds what the counts of a side have risen by."""
-        counts = Counter(dict(zip(REASONS[1:], list(core.counts)[1:])))
-        counts["missing"] = signed(counts["missing"], 32)
-        counts.update({name.replace("_", "-"): getattr(end, name) for name in ENDS})
-        incoming.counts.update(risen(counts, self.reported[side]))
-        self.reported[side] = counts
+        """Adds what the counts of a side have risen by; they go on modulo 2^32, and `missing` may
+        fall."""
+        now = [*core.counts[1:], *(getattr(end, name) for name in ENDS)]
+        before, self.reported[side] = self.reported[side], now
+        if now == before:  # as mostly
+            return
+        for name, count, last in zip(COUNTED, now, before):
+            if count != last:
+                incoming.counts[name] += signed(count - last, 32)
 
 
 def take_reception(incoming: Incoming, core: Any) -> None:
@@ -362,8 +371,6 @@ class PumpBoard(Switchboard):
 
     def call_of(self, settings: Settings, period: int) -> LiveCall:
         """As Switchboard.call_of."""
-        if settings.types and not hasattr(self.pump.library, "trau_call_types"):
-            raise Refusal("the loop takes no dynamic payload types")
         return PumpCall(settings, period)
 
     def begin_call(self, connection: Connection) -> None:
@@ -375,15 +382,11 @@ class PumpBoard(Switchboard):
         slot = call.slot = pump.free.pop()
         ends = (_End * 2)(*(end_of(connection.endpoints[side]) for side in NAMES))
         is_recorded = isinstance(connection.recorder, Recorder)
-        if not pump.library.pump_prepare(
-            *(pump.pump, slot, call.number, call.law == "mulaw", call.depth, call.is_to_prime),
-            *(call.random(), ends, is_recorded),
-        ):
+        begun = pump.library.pump_prepare(
+            pump.pump, slot, ctypes.byref(beginning_of(call)), ends, is_recorded
+        )
+        if begun != BEGUN:
             raise Refusal("no memory for the call")
-        if call.types:
-            pump.library.trau_call_types(
-                ctypes.c_void_p(pump.library.pump_call_of(pump.pump, slot)), *call.types
-            )
         for side in range(len(NAMES)):
             if failure := pump.library.pump_watch(pump.pump, slot, side, connection.phase):
                 raise OSError(failure, os.strerror(failure))
@@ -404,10 +407,6 @@ class PumpBoard(Switchboard):
     def change(self, connection: Connection) -> None:
         """As Switchboard.change."""
         self.command(SET, connection)
-
-    def move(self, connection: Connection, phase: int) -> None:
-        """The loop moves a call when its bridge begins or ends."""
-        connection.phase = phase
 
     def join(self, one: Connection, other: Connection) -> None:
         """As Switchboard.join."""
@@ -484,16 +483,16 @@ class PumpBoard(Switchboard):
                 self.is_closing = False
                 self.pump.publish()
             return
-        self.network.read(phase, period, behind)
-        self.pump.library.pump_process(self.pump.pump, phase, period, behind)
+        turn = LoopTurn(period, phase, behind, 0)
+        self.pump.library.pump_process(self.pump.pump, ctypes.byref(turn))
         self.collect()
 
     def give_up(self, periods: int, period: int) -> None:
-        """The loop does it, and says so by an event. Without a thread, as Switchboard.give_up."""
+        """The loop does it, and says so by an event."""
         if not self.pump.is_running:
             self.say_given_up(periods, period)
-            self.pump.library.pump_give_up(self.pump.pump, periods, period)
-            self.network.drop()
+            turn = LoopTurn(period, 0, 0, periods)
+            self.pump.library.pump_give_up(self.pump.pump, ctypes.byref(turn))
 
     def look_after(self, period: int) -> None:
         """Looks after the calls of each period since the last time."""

@@ -16,7 +16,7 @@ from trau.rules.board import OrderRefusal
 from trau.rules.lines import SIDES
 from trau.rules.profile import MOST_CALLS, MOST_LEVEL, PERIODS_A_SECOND
 from trau.command_line.words import Refusal
-from trau.gateway.calls import STILL_AFTER, LiveCall
+from trau.gateway.calls import NOT_YET, STILL_AFTER, LiveCall
 from trau.gateway.clock import PHASES
 from trau.gateway.network import Network, SocketEndpoint
 from trau.gateway.recorder import FILES, LAST_WRITES, AnyRecorder, NoRecorder, Recorder
@@ -43,8 +43,16 @@ SOCKETS_OF_CALL = 6  # of both sides, each with two for RTP and one for RTCP
 DESCRIPTORS_OF_CALL = SOCKETS_OF_CALL + len(SIDES)
 DESCRIPTORS_OF_REST = 64  # a recording, the next one, and what else the process has
 Say = Callable[[str], None]
+Work = Callable[[int], object]  # that is done with the period in which a line is in force
 Seen = Tuple[Optional[int], Counter[str]]  # when a side was heard last, and its counts then
 NEVER_SEEN: Seen = (None, Counter())
+
+
+class TooSoon(Refusal):
+    """A line would end a bridge before its first period, so it waits until that is done."""
+
+    def __init__(self) -> None:
+        super().__init__("the bridge has had no period")
 
 
 def refusal(reason: OrderRefusal) -> Refusal:
@@ -122,8 +130,8 @@ class Switchboard:
         }
 
     def execute(self, text: str, period: int) -> None:
-        """Executes a line at the start of a period. Raises Refusal, or OSError if a port or a
-        folder can't be had; nothing has changed then."""
+        """Executes a line at the start of a period. Raises Refusal (TooSoon: it waits for the next
+        one), or OSError if a port or a folder can't be had; nothing has changed then."""
         verb, *words = text.split()
         wanted = {
             "close": 1,
@@ -195,7 +203,7 @@ class Switchboard:
         """The call that is to be opened."""
         return LiveCall(settings, period)
 
-    # The calls do what follows by themselves here. The loop in C (pump.py) has commands for it.
+    # What follows is of the host that processes the calls: the loop in C (pump.py), or calls in Python, as tests have them.
 
     @property
     def is_ready(self) -> bool:
@@ -214,13 +222,24 @@ class Switchboard:
     def separate(self, connection: Connection) -> None:
         """The bridge of a call is over."""
 
+    def move(self, connection: Connection, phase: int) -> None:
+        """Processes a call in this phase from now on."""
+        connection.phase = phase
+
     def end_call(self, connection: Connection) -> None:
         """The call ends."""
 
     def ask(self, connection: Connection) -> None:
         """The counts of a call are to be those of now."""
 
-    def when_done(self, period: int, *works: Callable[[int], object]) -> None:
+    def process(self, phase: int, period: int, behind: int) -> None:
+        """The tick of the calls of a phase: all that came is read, all packets leave, and then the
+        lines are written."""
+
+    def give_up(self, periods: int, period: int) -> None:
+        """The clock has given up time, in all calls alike. What came in it is old, and dropped."""
+
+    def when_done(self, period: int, *works: Work) -> None:
         """Does these, each with the period in which the line is in force."""
         for work in works:
             work(period)
@@ -256,13 +275,6 @@ class Switchboard:
         phases = [connection.phase for connection in connections]
         return min(range(PHASES), key=phases.count)
 
-    def move(self, connection: Connection, phase: int) -> None:
-        """Processes a call in this phase from now on."""
-        if phase != connection.phase:
-            for endpoint in connection.endpoints.values():
-                self.network.move(endpoint, connection.phase, phase)
-            connection.phase = phase
-
     def disconnect(self, connection: Connection) -> None:
         """Closes the sockets of a call."""
         for endpoint in connection.endpoints.values():
@@ -271,13 +283,14 @@ class Switchboard:
     def close(self, words: List[str], period: int) -> None:
         """Closes a call, and its bridge before."""
         connection = self.connection(words[0])
-        if partner := connection.call.partner:
-            self.part(connection.call, partner, period)
+        works: List[Work] = []
+        if connection.call.partner:
+            works.append(self.part(connection.call, period))
             self.separate(connection)
         self.end_call(connection)
         del self.connections[connection.call.number]
         order = connection.recorder.planned(f"close {connection.call.number}")
-        self.when_done(period, order, lambda at: self.closed(connection, at))
+        self.when_done(period, *works, order, lambda at: self.closed(connection, at))
 
     def closed(self, connection: Connection, period: int) -> None:
         """A call was closed."""
@@ -314,40 +327,58 @@ class Switchboard:
             raise refusal(OrderRefusal.SAME_CALL)
         if one.call.partner or other.call.partner:
             raise refusal(OrderRefusal.BRIDGED)
-        if period in (one.call.parted, other.call.parted):
+        if period <= max(one.call.parted, other.call.parted):
             raise refusal(OrderRefusal.DRAINING)
         if one.recorder is not other.recorder:
             raise Refusal("the calls aren't in one recording")
         self.hold_to_room(one.recorder)
-        one.call.partner, other.call.partner = other.call, one.call
-        for connection in (one, other):
-            connection.call.begin_bridge()
+        begun = self.pair(one.call, other.call)
         others = [each for each in self.connections.values() if each not in (one, other)]
         phase = self.emptiest_phase(others)
         for connection in (one, other):
             self.move(connection, phase)
         self.join(one, other)
         order = f"bridge {one.call.number} {other.call.number}"
-        self.when_done(period, one.recorder.planned(order))
+        self.when_done(period, begun, one.recorder.planned(order))
 
     def unbridge(self, words: List[str], period: int) -> None:
         """Ends a bridge."""
         connection = self.connection(words[0])
-        partner = connection.call.partner
-        if partner is None:
+        if connection.call.partner is None:
             raise refusal(OrderRefusal.NOT_BRIDGED)
         self.hold_to_room(connection.recorder)
-        self.part(connection.call, partner, period)
+        parted = self.part(connection.call, period)
         others = [each for each in self.connections.values() if each is not connection]
         self.move(connection, self.emptiest_phase(others))
         self.separate(connection)
         order = f"unbridge {connection.call.number}"
-        self.when_done(period, connection.recorder.planned(order))
+        self.when_done(period, parted, connection.recorder.planned(order))
 
-    def part(self, one: LiveCall, other: LiveCall, period: int) -> None:
-        """Ends the bridge of two calls."""
-        one.partner = other.partner = None
-        one.parted = other.parted = period
+    def pair(self, one: LiveCall, other: LiveCall) -> Work:
+        """Begins the bridge of two calls; the result takes the period in which it began."""
+        one.partner, other.partner = other, one
+        one.bridged = other.bridged = NOT_YET
+
+        def begun(period: int) -> None:
+            one.bridged = other.bridged = period
+
+        return begun
+
+    def part(self, one: LiveCall, period: int) -> Work:
+        """Ends the bridge of a call, which has at least one period; the result takes the period in
+        which it ended."""
+        assert one.partner
+        if one.bridged >= period:
+            raise TooSoon
+        both = one, one.partner
+        for call in both:
+            call.partner, call.parted = None, NOT_YET
+
+        def parted(at: int) -> None:
+            for call in both:
+                call.parted = at
+
+        return parted
 
     def counts(self, words: List[str], period: int) -> None:
         """Says the counts of a call up to now. It is no order."""
@@ -400,38 +431,11 @@ class Switchboard:
         self.ended.append(recorder)
         recorder.end(period)
 
-    def process(self, phase: int, period: int, behind: int) -> None:
-        """The tick of the calls of a phase: all that came is read, all packets leave, and then the
-        lines are written."""
-        self.network.read(phase, period, behind)
-        connections = [
-            connection for connection in self.connections.values() if connection.phase == phase
-        ]
-        for connection in connections:
-            connection.call.hear(period)
-        for connection in connections:
-            call, endpoints = connection.call, connection.endpoints
-            connection.recorder.period(
-                call.number, call.speak(period, endpoints["gsm"].send, endpoints["pcm"].send)
-            )
-        for recorder in self.recorders:
-            recorder.write()
-        if behind:
-            for connection in connections:
-                connection.call.counts["held-up"] += 1
-
     def say_given_up(self, periods: int, period: int) -> None:
         """Says and records that the clock has given up time."""
         self.say(f"given up {periods} periods at {period}")
         for recorder in self.recorders:
             recorder.give_up(period, periods)
-
-    def give_up(self, periods: int, period: int) -> None:
-        """The clock has given up time, in all calls alike. What came in it is old, and dropped."""
-        self.say_given_up(periods, period)
-        self.network.drop()
-        for connection in self.connections.values():
-            connection.call.give_up(periods, period)
 
     def look_after(self, period: int) -> None:
         """Looks after each call and the disk once a second, and writes the time once an hour."""
@@ -479,7 +483,14 @@ class Switchboard:
             self.say(f"{name} hears again at {period}")
 
     def end(self, period: int) -> int:
-        """Closes all calls; the result is the period at which that is."""
+        """Closes all calls; the result is the period at which that is. If a bridge began in it, that
+        is its period, and they are closed in the next one."""
+        if any(
+            each.call.partner and each.call.bridged >= period for each in self.connections.values()
+        ):
+            for phase in range(PHASES):
+                self.process(phase, period, 0)
+            period += 1
         for call in list(self.connections):
             self.close([str(call)], period)
         return period
