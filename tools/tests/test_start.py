@@ -4,7 +4,6 @@ import contextlib
 import io
 import os
 import pty
-import random
 import re
 import resource
 import select
@@ -22,11 +21,9 @@ from unittest import mock
 from support import EXAMPLES, HAS_LOCKS, PLAIN_PATH, TOP, InFolder, put_python
 
 from trau.command_line.words import Refusal
-from test_orders import MARK_FAULTS
 
 from trau.packing import build
 from trau.packing import build_for
-from trau.runs import order_text
 from trau.packing import trau_words
 
 CRATES = """# crate: the crates that it stands on
@@ -521,7 +518,7 @@ class TheFirstStart(Started):
                 "trau_c",
             }
             | {"packet_tests", "rtp_buffer", "rtp_packet", "rtp_stream"}
-            | {"call_coders", "memory_folder", "rtp_call", "rtp_session"},
+            | {"call_coders", "memory_folder", "rtp_call", "rtp_session", "trau_calls"},
         )
         self.assert_refused(
             build.main, ["--top", self.top, "--program", "gone"], "has no line of gone"
@@ -791,12 +788,10 @@ class Help(Started):
         for command in trau_words.COMMANDS:
             for words in (["help", command.name], [command.name, "--help"], [command.name, "-h"]):
                 self.assertEqual(self.trau(*words), (0, trau_words.page(command), ""), words)
-        # Of a name that is no command, none is a pattern.
+        # Of a name that is no command, none is a pattern: the program gets the words.
+        self.built()
         for name in ("x", ".*", "r.n", "[", "run\nsave", "run/"):
-            self.assertEqual(
-                self.trau("help", name),
-                (1, "usage\n", f"trau: help {name}: no command; trau help lists them\n"),
-            )
+            self.assertEqual(self.trau("help", name), (0, f"the program: help {name}\n", ""), name)
 
     def test_where_the_program_is_built_too(self):
         self.built()
@@ -847,82 +842,21 @@ class Help(Started):
         self.assertEqual(self.at_terminal("resume"), (0, f"{note}{more}the program: resume\n"))
 
 
-class WrongWords(Started):
-    """Which word is wrong. The stand-in takes all words, so that a status 0 says that the script refused none by itself."""
+class GivenWords(Started):
+    """The program gets the words and the orders as they are: it alone says what is wrong with them."""
 
-    WRONG = {
-        "run --workers 65": "--workers 65: 1 to 64",
-        "run --workers=65": "--workers 65: 1 to 64",
-        "run --workers 0": "--workers 0: 1 to 64",
-        "run --workers 04": "--workers 04: 1 to 64, without leading zeros",
-        "run --slice x": "--slice x: 1 to 250",
-        "run --periods 4294967296": "--periods 4294967296: 1 to 4294967295",
-        "run --periods 99999999999999999999": "--periods 99999999999999999999: 1 to 4294967295",
-        "run --batch": "--batch: its value is missing, 1 to 250",
-        "run --batch=": "--batch: its value is missing, 1 to 250",
-        "run -x": "-x: no option of run; trau help run lists them",
-        "run --batch 2 --batch=3": "--batch: it is given twice",
-        "run --work 2": "--work: no option of run; trau help run lists them",
-        "run --seed 2": "--seed: no option of run; trau help run lists them",
-        "run orders.txt": "orders.txt: a word too many",
-        "run -- --periods 5": "--periods: a word too many",
-        "drill --seed 2 -- --": "--: a word too many",
-        "save --": "save: --periods is missing, the period of the mark",
-        "drill --calls 257": "--calls 257: 1 to 256",
-        "live --inbox --seed 3": "--inbox --seed: 1 to 1024",
-        "save": "save: --periods is missing, the period of the mark",
-        "save --workers 3": "save: --periods is missing, the period of the mark",
-        "relay": "relay: C is missing, 1 to 4096",
-        "relay 4097": "relay 4097: C is 1 to 4096",
-        "relay 07": "relay 07: C is 1 to 4096, without leading zeros",
-        "relay 7 8": "8: a word too many",
-        "split 4094": "split 4094: C is 1 to 4093",
-        "follow 7": "follow: W is missing, 0 to 316",
-        "follow 7 6": "follow 6: W is a multiple of 4",
-        "follow 7 320": "follow 320: W is 0 to 316",
-        "relya 7": "relya: no command; trau help lists them",
-        "-x": "-x: no command; trau help lists them",
-        "relay 7 --no-lock": "--no-lock: it comes once, before the command",
-        "run --no-lock": "--no-lock: it comes once, before the command",
-        "no such/thing": "no: no command; trau help lists them",
-    }
-    RIGHT = (
-        *(
-            "run --workers 64 --batch=1",
-            "save --periods 4294967295",
-            "live --seed 0",
-            "split 4093",
-            "follow 7 316",
-            "frames 1",
-        ),
-        *("run --", "save --periods 5 --", "drill --seed=2 --"),
-    )
-
-    def test_what_is_wrong_is_said_before_any_proof(self):
-        for words, wrong in self.WRONG.items():
-            self.assertEqual(self.trau(*words.split()), (1, "usage\n", f"trau: {wrong}\n"), words)
-        self.assertFalse(self.asked.exists())
-
-    def test_the_program_decides(self):
+    def test_wrong_words(self):
         self.built()
-        for words in [*self.WRONG, *self.RIGHT]:
+        for words in ("run --workers 65", "run orders.txt", "relya 7", "relay", "help relya", "-x"):
             self.assertEqual(self.trau(*words.split()), (0, f"the program: {words}\n", ""), words)
 
-    def test_a_file_of_orders_among_the_words(self):
-        self.path("orders.txt", b"0 open 1\n")
-        for words, said in (
-            ("run orders.txt", "run reads orders from standard input: trau run <orders.txt"),
-            (
-                "run --workers 2 orders.txt",
-                "run reads orders from standard input: trau run .. <orders.txt",
-            ),
-            (
-                "save orders.txt --periods 5",
-                "save reads orders from standard input: trau save <orders.txt",
-            ),
-            ("relay 7 orders.txt", "orders.txt: a word too many"),
-        ):
-            self.assertEqual(self.trau(*words.split()), (1, "usage\n", f"trau: {said}\n"))
+    def test_wrong_orders(self):
+        self.built()
+        for words in ("run", "save --periods 5", "resume"):
+            self.assertEqual(
+                self.trau(*words.split(), given=b"# no order\n"),
+                (0, f"the program: {words}\n", ""),
+            )
 
     def test_where_standard_output_may_not_grow(self):
         self.built()
@@ -939,177 +873,6 @@ class WrongWords(Started):
                     ),
                 )
             self.assertNotIn(ended.returncode, (-signal.SIGXFSZ, 128 + signal.SIGXFSZ), words)
-
-
-class BadOrders(Started):
-    """What is said of orders that the program will refuse. The stand-in takes all."""
-
-    def setUp(self):
-        super().setUp()
-        self.built()
-
-    def run_of(self, content, *words, **changes):
-        """The status, standard output and standard error of a run whose orders are a file."""
-        path = self.path("orders.txt", content)
-        how = {
-            "capture_output": True,
-            "text": True,
-            "cwd": self.folder,
-            "env": {**self.surroundings, **changes},
-        }
-        with open(path, "rb") as orders:
-            ended = subprocess.run([self.top / "trau", *words], stdin=orders, **how)
-        return ended.returncode, ended.stdout, ended.stderr
-
-    def test_a_limit_on_the_size_of_files(self):
-        # What the script says is a write past the limit, too, if standard error is a file.
-        path = self.path("orders.txt", b"0 open 1\n5 open  2\n")
-        limit = lambda: resource.setrlimit(resource.RLIMIT_FSIZE, (0, 0))
-        how = {
-            "stdout": subprocess.PIPE,
-            "text": True,
-            "cwd": self.folder,
-            "env": self.surroundings,
-            "preexec_fn": limit,
-        }
-        with open(path, "rb") as orders, open(self.folder / "said", "wb") as said:
-            ended = subprocess.run([self.top / "trau", "run"], stdin=orders, stderr=said, **how)
-        self.assertEqual((ended.returncode, ended.stdout), (0, "the program: run\n"))
-
-    def test_the_first_bad_line(self):
-        said = "trau: line 2 of the orders: two spaces; tools/orders.py check says what is wrong with each line\n"
-        self.assertEqual(
-            self.run_of(b"0 open 1\n5 open  2\nx", "run"), (0, "the program: run\n", said)
-        )
-        self.assertEqual(self.run_of(b"0 open 1\n5 open  2\nx", "save", "--periods", "5")[2], said)
-        marked = said.replace("check says", "check --mark says")
-        self.assertEqual(
-            self.run_of(
-                b"save 5\ncall 1 from 0 out 1 down 1\norders\n0 open 1\n5 open  2\n", "resume"
-            )[2],
-            marked,
-        )
-        said = "trau: line 1 of the mark: period 05: a leading zero; tools/orders.py check --mark says what is wrong with each line\n"
-        self.assertEqual(self.run_of(b"save 05\norders\n0 open  1\n", "resume")[2], said)
-        self.assertEqual(self.run_of(b"x\n", "relay", "7")[2], "")
-        self.assertEqual(self.run_of(b"0 open 1", "run"), (0, "the program: run\n", ""))
-        self.assertEqual(self.run_of(b"", "run")[2], "")
-
-    def test_without_the_reason(self):
-        (self.tools / "python3").unlink()
-        said = (
-            "trau: line 1 of the orders; tools/orders.py check says what is wrong with each line\n"
-        )
-        self.assertEqual(
-            self.run_of(b"x\n", "run", PATH=f"{self.tools}:{self.no_python()}")[2], said
-        )
-
-    def no_python(self):
-        """A folder with the system's commands but Python."""
-        folder = self.folder / "commands"
-        folder.mkdir()
-        for name in (
-            "awk",
-            "sed",
-            "grep",
-            "head",
-            "cat",
-            "dirname",
-            "readlink",
-            "find",
-            "sort",
-            "cksum",
-            "flock",
-            "stat",
-            "xargs",
-        ):
-            found = shutil.which(name, path=PLAIN_PATH)
-            if found:
-                (folder / name).symlink_to(found)
-        return folder
-
-    def test_what_isnt_read_from_the_start(self):
-        # Whoever has read some of it has the program read the rest; and a pipe can be read once.
-        path = self.path("orders.txt", b"# orders\n0 open 1\n")
-        how = {"capture_output": True, "text": True, "cwd": self.folder, "env": self.surroundings}
-        script = (
-            f"{{ read -r line; {self.top}/trau run; }} <{path}; cat {path} | {self.top}/trau run"
-        )
-        ended = subprocess.run(["sh", "-c", script], **how)
-        self.assertEqual((ended.stdout, ended.stderr), (2 * "the program: run\n", ""))
-
-
-class FirstBadLine(unittest.TestCase):
-    """The line that tools/bad_order.awk names is that of orders.py check."""
-
-    def test_of_orders(self):
-        chance = random.Random(1)
-        words = [
-            "open",
-            "close",
-            "bridge",
-            "unbridge",
-            "level",
-            "dtx",
-            "on",
-            "uplink",
-            "mulaw",
-            "0",
-            "5",
-            "4096",
-            "4097",
-            "32768",
-            "07",
-            "",
-            "\t",
-            "x\r",
-        ]
-        good = [
-            "0 open 1",
-            "0 open 2 mulaw",
-            "0 dtx 1 on",
-            "0 level 2 32767",
-            "3 bridge 1 2",
-            "4 unbridge 2",
-            "4294967294 close 1",
-        ]
-        for _ in range(100):
-            lines = list(good)
-            for _ in range(chance.randrange(3)):
-                at = chance.randrange(len(lines))
-                parts = lines[at].split(" ")
-                parts[chance.randrange(len(parts))] = chance.choice(words)
-                lines[at] = " ".join(parts)
-            text = "\n".join(lines).encode()
-            ran = subprocess.run(
-                ["awk", "-f", TOP / "tools" / "bad_order.awk"],
-                input=text,
-                capture_output=True,
-                check=True,
-            )
-            bad = min(order_text.Text.read(text).faults, default=None)
-            self.assertEqual(
-                ran.stdout.decode().strip(), "" if bad is None else f"line {bad}", text
-            )
-
-    def bad_of(self, text):
-        """What is bad of a mark and orders."""
-        words = ["awk", "-v", "marked=1", "-f", TOP / "tools" / "bad_order.awk"]
-        return (
-            subprocess.run(words, input=text, capture_output=True, check=True)
-            .stdout.decode()
-            .strip()
-        )
-
-    def test_of_a_mark(self):
-        for line, text, said in MARK_FAULTS:
-            # What lacks at the text's end it doesn't say.
-            seen = "the text ends" not in said and "no line feed" not in said and text
-            self.assertEqual(self.bad_of(text), f"mark line {line}" if seen else "", text)
-        good = b"save 60\ncall 1 from 0 out 4294967295 down 0\ncall 4096 from 59 out 1 down 1\norders\n"
-        self.assertEqual(
-            (self.bad_of(good), self.bad_of(good + b"0 open 1\n1 open 0\n")), ("", "line 2")
-        )
 
 
 @unittest.skipUnless(HAS_LOCKS, "there is no flock, or temporary files have no locks")
@@ -1158,18 +921,6 @@ class TwoRuns(Started):
             self.assertEqual(self.trau("--no-lock", "run"), (0, "the program: run\n", ""))
             self.rest(run, b"")
         self.assertEqual(self.trau("run"), (0, "the program: run\n", ""))
-
-    def test_words_that_are_wrong(self):
-        # The script finds them wrong, and the stand-in takes them all the same. It isn't asked while another run has the folder.
-        words = ["run", "--workers", "65"]
-        with self.lasting(*words) as run:
-            self.assertEqual(self.trau("relay", "7")[0], 125)
-            self.assertEqual(self.trau(*words), (1, "usage\n", "trau: --workers 65: 1 to 64\n"))
-            self.assertEqual(
-                self.trau("--no-lock", *words), (0, "the program: run --workers 65\n", "")
-            )
-            self.rest(run, b"")
-        self.assertEqual(self.trau(*words), (0, "the program: run --workers 65\n", ""))
 
     def test_where_there_is_no_lock(self):
         with self.lasting("frames", "7") as run:

@@ -1,7 +1,6 @@
 -- Lemmas on words.
 pub mod Asking
 mod Following
-mod Found
 mod Living
 mod Matched
 pub mod Naming

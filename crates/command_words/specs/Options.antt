@@ -17,13 +17,14 @@ bare_app name = on_top (λ s. record s { no_binary_name = true; disable_help_fla
 abbrev pub with_option : Text → App → App
 with_option name app = with_rule app (option_rule name)
 
--- the value of an option: a number in its range, in decimal digits without leading zeros, or its default if it isn't given
+-- the value of an option: a number in its range, in decimal digits without leading zeros, or its default if it isn't
+-- given
 abbrev pub IsValueOf : Option Text → ℕ → ℕ → ℕ → ℕ → Type 0
 IsValueOf None low high default n = n ≡ default
 IsValueOf (Some text) low high default n = IsNumber low high text n
 
--- The settings that options give; `text_of` has the text of each option, by its name. `most` and `default` are the command's:
--- the highest number of periods, and the number without `--periods`.
+-- The settings that options give; `text_of` has the text of each option, by its name. `most` and `default` are the
+-- command's: the highest number of periods, and the number without `--periods`.
 pub record GivesSettings (most default : ℕ) (text_of : Text → Option Text) (s : Settings) : Type 0 where
   pub workers : IsValueOf (text_of (codes "workers")) 1 64 4 s.workers
   pub batch : IsValueOf (text_of (codes "batch")) 1 250 50 s.batch

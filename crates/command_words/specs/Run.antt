@@ -8,8 +8,8 @@ use Rattle.command_words.specs.Options.{bare_app, with_option, GivesSettings}
 abbrev pub run_app : App
 run_app = with_option (codes "periods") (with_option (codes "slice") (with_option (codes "batch") (with_option (codes "workers") (bare_app (codes "run")))))
 
--- options are taken and give these settings: by the definitions of `clap` they have no fault, and the text of each option is
--- a number in its range
+-- options are taken and give these settings: by the definitions of `clap` they have no fault, and the text of each
+-- option is a number in its range
 pub record AreOptions (options : List Text) (s : Settings) : Type 0 where
   pub taken : fault_of run_app options ≡ []
   pub gives : GivesSettings 4294967295 4294967295 (λ name. first_of name (matches_of run_app options)) s

@@ -1,7 +1,6 @@
 //! What words ask for, and why they aren't taken.
 
 use crate::LiveSettings;
-use std::alloc::AllocError;
 use thiserror::Error;
 
 /// The settings of a run.
@@ -42,13 +41,14 @@ pub enum Asked {
     Encode(u32),
     /// The good speech frames of a call's uplink, decoded, on its Out line.
     Decode(u32),
-    /// The base station's end of the downlink recorded on the Up line of a call, 1 to 4,096. The station wants frames at
-    /// places (in bits) that are `want` modulo 320: 0 to 316, a multiple of 4.
+    /// The base station's end of the downlink recorded on the Up line of a call, 1 to 4,096. The station wants frames
+    /// at places (in bits) that are `want` modulo 320: 0 to 316, a multiple of 4.
     Follow {
         call: u32,
         want: u16,
     },
-    /// The time slot on the Pcm line of a call, 1 to 4,093, cut into four channels for the Down lines of this call and the next three.
+    /// The time slot on the Pcm line of a call, 1 to 4,093, cut into four channels for the Down lines of this call and
+    /// the next three.
     Split(u32),
     /// The channels on the Up lines of a call, 1 to 4,093, and of the next three, put together to a time slot.
     Merge(u32),
@@ -63,15 +63,4 @@ pub enum WordsFault {
     /// Out of memory.
     #[error("no memory")]
     Memory,
-}
-
-impl From<AllocError> for WordsFault {
-    ghost use Rattle.std.specs.Prelude.{◌≡◌};
-    ghost use Rattle.command_words.specs.declared.asked.WordsFault.TheVariants.{Memory};
-
-    ghost from_gives = { λ _ fault. fault ≡ Memory };
-
-    fn from(_: AllocError) -> WordsFault {
-        WordsFault::Memory
-    }
 }

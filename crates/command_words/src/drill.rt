@@ -1,12 +1,13 @@
 //! The options of `drill`.
 
-ghost use Rattle.std.specs.Prelude.{◌≡◌, ℕ, IfOk, IfSome, IsNone, IsErrOf, map, string_bytes};
+ghost use Rattle.std.specs.Prelude.{◌≡◌, ℕ, IfOk, IsErr, IsErrOf, map, string_bytes};
 ghost use Rattle.clap.specs.Words.{first_value, found_of};
 ghost use Rattle.command_words.specs.declared.asked.Settings.{Settings as TheSettings};
+ghost use Rattle.command_words.specs.declared.reason.Reason.{Reason as TheReason};
 ghost use Rattle.command_words.specs.Drill.{GivesDrill, AreDrillOptions};
 
 use crate::options::{matches_of, settings_of, value};
-use crate::{Settings, WordsFault};
+use crate::{Reason, Refused, Settings};
 use clap::ArgMatches;
 use std::alloc::Global;
 
@@ -24,11 +25,11 @@ pub(crate) struct Drilled {
     pub(crate) settings: Settings,
 }
 
-fn drilled_of(matches: &ArgMatches<'_>) -> Option<Drilled>
-    ensures some { IfSome result (λ d. GivesDrill (first_value (found_of matches.now)) d.seed d.calls d.settings) }
-    ensures none { IsNone result → (seed calls : ℕ) (s : TheSettings) → GivesDrill (first_value (found_of matches.now)) seed calls s → ⊥ }
+fn drilled_of<'a>(matches: &ArgMatches<'a>) -> Result<Drilled, Reason<'a>>
+    ensures ok { IfOk result (λ d. GivesDrill (first_value (found_of matches.now)) d.seed d.calls d.settings) }
+    ensures bad { IsErr result → (seed calls : ℕ) (s : TheSettings) → GivesDrill (first_value (found_of matches.now)) seed calls s → ⊥ }
 {
-    Some(Drilled {
+    Ok(Drilled {
         seed: value(matches, "seed", 0, u32::MAX, 1)?,
         calls: value(matches, "calls", 1, MOST_CALLS, 64)?,
         settings: settings_of(matches, MOST_PERIODS, 200)?,
@@ -36,9 +37,9 @@ fn drilled_of(matches: &ArgMatches<'_>) -> Option<Drilled>
 }
 
 /// The drill that the words after `drill` give.
-pub(crate) fn read_drill(alloc: Global, options: &[String]) -> Result<Drilled, WordsFault>
+pub(crate) fn read_drill(alloc: Global, options: &[String]) -> Result<Drilled, Refused<'_>>
     ensures ok { IfOk result (λ d. AreDrillOptions (map (λ w. string_bytes w) options.now) d.seed d.calls d.settings) }
-    ensures usage { IsErrOf result WordsFault.Usage → (seed calls : ℕ) (s : TheSettings) →
+    ensures words { (reason : TheReason) → IsErrOf result (Refused.Words reason) → (seed calls : ℕ) (s : TheSettings) →
         AreDrillOptions (map (λ w. string_bytes w) options.now) seed calls s → ⊥ }
 {
     let matches = matches_of(
@@ -47,5 +48,5 @@ pub(crate) fn read_drill(alloc: Global, options: &[String]) -> Result<Drilled, W
         &["workers", "batch", "slice", "periods", "seed", "calls"],
         options,
     )?;
-    drilled_of(&matches).ok_or(WordsFault::Usage)
+    Ok(drilled_of(&matches)?)
 }

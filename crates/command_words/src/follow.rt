@@ -16,8 +16,8 @@ pub(crate) struct Followed {
     pub(crate) want: u16,
 }
 
-// The wanted place that a text spells.
-fn wanted(text: &str) -> Option<u16>
+/// The wanted place that a text spells.
+pub(crate) fn wanted(text: &str) -> Option<u16>
     ensures some { IfSome result (λ want. IsWanted text.now want) }
     ensures none { IsNone result → (want : ℕ) → IsWanted text.now want → ⊥ }
 {

@@ -1,13 +1,14 @@
 //! The options of `live`.
 
-ghost use Rattle.std.specs.Prelude.{◌≡◌, IfOk, IfSome, IsNone, IsErrOf, map, string_bytes};
+ghost use Rattle.std.specs.Prelude.{◌≡◌, IfOk, IsErr, IsErrOf, map, string_bytes};
 ghost use Rattle.clap.specs.Words.{first_value, found_of};
 ghost use Rattle.command_words.specs.declared.live.LiveSettings.{LiveSettings as TheSettings};
+ghost use Rattle.command_words.specs.declared.reason.Reason.{Reason as TheReason};
 ghost use Rattle.command_words.specs.Live.{GivesLive, AreLiveOptions};
 
-use crate::WordsFault;
 use crate::drill::{MOST_CALLS, MOST_PERIODS};
 use crate::options::{matches_of, value};
+use crate::{Reason, Refused};
 use clap::ArgMatches;
 use std::alloc::Global;
 
@@ -26,11 +27,11 @@ pub struct LiveSettings {
     pub inbox: u32,
 }
 
-fn live_of(matches: &ArgMatches<'_>) -> Option<LiveSettings>
-    ensures some { IfSome result (λ s. GivesLive (first_value (found_of matches.now)) s) }
-    ensures none { IsNone result → (s : TheSettings) → GivesLive (first_value (found_of matches.now)) s → ⊥ }
+fn live_of<'a>(matches: &ArgMatches<'a>) -> Result<LiveSettings, Reason<'a>>
+    ensures ok { IfOk result (λ s. GivesLive (first_value (found_of matches.now)) s) }
+    ensures bad { IsErr result → (s : TheSettings) → GivesLive (first_value (found_of matches.now)) s → ⊥ }
 {
-    Some(LiveSettings {
+    Ok(LiveSettings {
         seed: value(matches, "seed", 0, u32::MAX, 1)?,
         calls: value(matches, "calls", 1, MOST_CALLS, 64)?,
         periods: value(matches, "periods", 1, MOST_PERIODS, 200)?,
@@ -40,9 +41,9 @@ fn live_of(matches: &ArgMatches<'_>) -> Option<LiveSettings>
 }
 
 /// The live drill that the words after `live` give.
-pub(crate) fn read_live(alloc: Global, options: &[String]) -> Result<LiveSettings, WordsFault>
+pub(crate) fn read_live(alloc: Global, options: &[String]) -> Result<LiveSettings, Refused<'_>>
     ensures ok { IfOk result (λ s. AreLiveOptions (map (λ w. string_bytes w) options.now) s) }
-    ensures usage { IsErrOf result WordsFault.Usage → (s : TheSettings) → AreLiveOptions (map (λ w. string_bytes w) options.now) s → ⊥ }
+    ensures words { (reason : TheReason) → IsErrOf result (Refused.Words reason) → (s : TheSettings) → AreLiveOptions (map (λ w. string_bytes w) options.now) s → ⊥ }
 {
     let matches = matches_of(
         alloc,
@@ -50,5 +51,5 @@ pub(crate) fn read_live(alloc: Global, options: &[String]) -> Result<LiveSetting
         &["seed", "calls", "periods", "callers", "inbox"],
         options,
     )?;
-    live_of(&matches).ok_or(WordsFault::Usage)
+    Ok(live_of(&matches)?)
 }

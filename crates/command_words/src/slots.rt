@@ -7,8 +7,8 @@ use crate::Asked;
 use call_number::LAST_CALL;
 use decimal_number::number_of_text;
 
-// The last call that three more follow.
-const HIGHEST_SLOT: u32 = LAST_CALL - 3;
+/// The last call that three more follow.
+pub(crate) const HIGHEST_SLOT: u32 = LAST_CALL - 3;
 
 // The command of this name on a slot.
 fn slot_named(name: &str, call: u32) -> Option<Asked>

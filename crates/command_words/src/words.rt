@@ -2,16 +2,18 @@
 
 ghost use Rattle.std.specs.Prelude.{◌≡◌, ◌∷◌, ℕ, List, IfOk, IfSome, IsNone, IsErrOf, map, string_bytes};
 ghost use Rattle.command_words.specs.declared.asked.Asked.{Asked as OneAsked};
+ghost use Rattle.command_words.specs.declared.reason.Reason.{Reason as TheReason};
 ghost use Rattle.command_words.specs.Asking.{Asks};
 ghost use Rattle.command_words.specs.Options.{TakeOptions};
 
 use crate::drill::read_drill;
 use crate::follow::read_follow;
 use crate::live::read_live;
+use crate::on_calls::why_not;
 use crate::run::{read_run, read_save};
 use crate::slots::read_slot;
 use crate::tools::read_tool;
-use crate::{Asked, WordsFault};
+use crate::{Asked, Refused, WordsFault};
 use std::alloc::Global;
 
 // The words after the first, if that is `command`.
@@ -42,9 +44,10 @@ fn options_of<'a>(words: &'a [String], command: &str) -> Option<&'a [String]>
 ///
 /// The options of `run` are `--workers` (1 to 64, else 4), `--batch` (1 to 250, else 50), `--slice` (1 to 250, else 5)
 /// and `--periods` (1 to 4,294,967,295, else that), each at most once and in any order, with a value as the next word
-/// or after `=` in the same one. A last word `--` is taken. `drill` has these too, but its `--periods` are 1 to 1,000, else
-/// 200; it also has `--seed` (0 to 4,294,967,295, else 1) and `--calls` (1 to 256, else 64). The options of `live` are
-/// `--seed`, `--calls` and `--periods` as for `drill`, `--callers` (1 to 64, else 4) and `--inbox` (1 to 1,024, else 8).
+/// or after `=` in the same one. A last word `--` is taken. `drill` has these too, but its `--periods` are 1 to 1,000,
+/// else 200; it also has `--seed` (0 to 4,294,967,295, else 1) and `--calls` (1 to 256, else 64). The options of `live`
+/// are `--seed`, `--calls` and `--periods` as for `drill`, `--callers` (1 to 64, else 4) and `--inbox` (1 to 1,024,
+/// else 8).
 ///
 /// Other words give `Usage`. For `run`, `save`, `resume`, `drill` and `live`, any answer may be `Memory` instead.
 pub fn read_words(alloc: Global, words: &[String]) -> Result<Asked, WordsFault>
@@ -54,6 +57,21 @@ pub fn read_words(alloc: Global, words: &[String]) -> Result<Asked, WordsFault>
     ensures usage { IsErrOf result WordsFault.Usage → (asked : OneAsked) → Asks (map (λ w. string_bytes w) words.now) asked → ⊥ }
     // Memory only for commands that take options.
     ensures memory { IsErrOf result WordsFault.Memory → TakeOptions (map (λ w. string_bytes w) words.now) }
+{
+    match parse_words(alloc, words) {
+        Ok(asked) => Ok(asked),
+        Err(Refused::Words(_)) => Err(WordsFault::Usage),
+        Err(Refused::Memory) => Err(WordsFault::Memory),
+    }
+}
+
+/// The same, and why if it is nothing. The reasons of commands with options are those of their readers, `clap`'s among
+/// them.
+pub fn parse_words(alloc: Global, words: &[String]) -> Result<Asked, Refused<'_>>
+    ensures ok { IfOk result (λ asked. Asks (map (λ w. string_bytes w) words.now) asked) }
+    ensures words { (reason : TheReason) → IsErrOf result (Refused.Words reason) →
+        (asked : OneAsked) → Asks (map (λ w. string_bytes w) words.now) asked → ⊥ }
+    ensures memory { IsErrOf result Refused.Memory → TakeOptions (map (λ w. string_bytes w) words.now) }
 {
     if let Some(options) = options_of(words, "run") {
         return read_run(alloc, options).map(Asked::Run);
@@ -84,5 +102,8 @@ pub fn read_words(alloc: Global, words: &[String]) -> Result<Asked, WordsFault>
             want: followed.want,
         });
     }
-    read_slot(words).ok_or(WordsFault::Usage)
+    match read_slot(words) {
+        Some(asked) => Ok(asked),
+        None => Err(Refused::Words(why_not(words))),
+    }
 }

@@ -11,7 +11,8 @@ pub record GivesWhole (most : ℕ) (before now : DeskState) (text : List ℕ) : 
   pub at_end : IsAtEnd now.to_come
   pub within : length text ≤ most
 
--- why reading stopped before the end: the desk failed, it gave one octet more than the limit, or memory ran out before any read
+-- why reading stopped before the end: the desk failed, it gave one octet more than the limit, or memory ran out before
+-- any read
 abbrev pub StoppedFor : ℕ → OrdersFault → List ℕ → Type 0
 StoppedFor most Unread given = length given ≤ most
 StoppedFor most TooLong given = length given ≡ most + 1

@@ -2,4 +2,5 @@
 pub mod Faults
 pub mod Given
 pub mod Reading
+pub mod Reasons
 pub mod Marked

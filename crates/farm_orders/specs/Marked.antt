@@ -23,7 +23,8 @@ pub record HasMark (text : List ℕ) (mark : MarkView) (orders : List ℕ) : Typ
   pub is : IsMark mark
   pub whole : text ≡ mark_text mark ++ orders
 
--- the orders after the mark of a text aren't taken, for this reason; their lines are counted from the first after the mark
+-- the orders after the mark of a text aren't taken, for this reason; their lines are counted from the first after the
+-- mark
 pub record RefusedBehind (text : List ℕ) (fault : OrdersFault) : Type 0 where
   pub mark : MarkView
   pub orders : List ℕ
@@ -36,8 +37,8 @@ pub record TakenBehind (text : List ℕ) (read : MarkedOrders) : Type 0 where
   pub has : HasMark text read.mark orders
   pub answer : AnswersText orders (Ok read.orders)
 
--- the answer to a whole text: its mark and orders, its first line that isn't in the mark's grammar, or why the orders aren't
--- taken; a text that is too long is refused before anything else; any answer may be out of memory instead
+-- the answer to a whole text: its mark and orders, its first line that isn't in the mark's grammar, or why the orders
+-- aren't taken; a text that is too long is refused before anything else; any answer may be out of memory instead
 abbrev pub AnswersMarked : List ℕ → Result MarkedOrders MarkedFault → Type 0
 AnswersMarked text (Ok read) = IsShort text × TakenBehind text read
 AnswersMarked text (Err (marked.Mark n)) = IsShort text × IsFirstBad text n
@@ -46,8 +47,8 @@ AnswersMarked text (Err (marked.Orders TooLong)) = (1310720 < length text) ⊎ (
 AnswersMarked text (Err (marked.Orders (Line n))) = IsShort text × RefusedBehind text (Line n)
 AnswersMarked text (Err (marked.Orders Memory)) = Unit {0}
 
--- the answer after these octets were read: at the desk's end the answer to this text; one octet past the limit, too long;
--- otherwise the desk failed or memory ran out
+-- the answer after these octets were read: at the desk's end the answer to this text; one octet past the limit, too
+-- long; otherwise the desk failed or memory ran out
 abbrev pub AnswersMarkedReads : DeskState → List ℕ → Result MarkedOrders MarkedFault → Type 0
 AnswersMarkedReads now given (Ok read) = IsAtEnd now.to_come × AnswersMarked given (Ok read)
 AnswersMarkedReads now given (Err (marked.Mark n)) = IsAtEnd now.to_come × AnswersMarked given (Err (marked.Mark n))
@@ -68,8 +69,8 @@ AnswersMarkedTold text (Err (marked.Orders TooLong)) = AnswersMarked text (Err (
 AnswersMarkedTold text (Err (marked.Orders (Line n))) = AnswersMarked text (Err (marked.Orders (Line n)))
 AnswersMarkedTold text (Err (marked.Orders Memory)) = Unit {0}
 
--- the desk's text is known and has at most 1,310,720 octets: the text of this mark, followed by a text within the limits of
--- orders, whose lines spell these orders
+-- the desk's text is known and has at most 1,310,720 octets: the text of this mark, followed by a text within the
+-- limits of orders, whose lines spell these orders
 pub record TellsMarked (mark : MarkView) (orders : List Order) (desk : DeskState) : Type 0 where
   pub text : List ℕ
   pub told : desk.to_come ≡ Some text

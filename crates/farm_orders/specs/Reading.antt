@@ -8,8 +8,8 @@ use Rattle.farm_orders.specs.declared.fault.OrdersFault.{OrdersFault}
 use Rattle.farm_orders.specs.declared.fault.OrdersFault.TheVariants.{Unread, TooLong, Line, Memory}
 use Rattle.farm_orders.specs.Given.{ReadsUpTo}
 
--- the answer to a whole text: its orders, that it is beyond the limits, or its first line that isn't in the grammar; any
--- answer may be out of memory instead
+-- the answer to a whole text: its orders, that it is beyond the limits, or its first line that isn't in the grammar;
+-- any answer may be out of memory instead
 abbrev pub AnswersText : List ℕ → Result (List Order) OrdersFault → Type 0
 AnswersText text (Ok orders) = IsWithin text × AreLines (text_lines text) orders
 AnswersText text (Err Unread) = ⊥
@@ -17,8 +17,8 @@ AnswersText text (Err TooLong) = IsBeyond text
 AnswersText text (Err (Line n)) = IsWithin text × IsFirstBad (text_lines text) n
 AnswersText text (Err Memory) = Unit {0}
 
--- the answer after these octets were read: at the desk's end the answer to this text; one octet past the limit, too long;
--- otherwise the desk failed or memory ran out
+-- the answer after these octets were read: at the desk's end the answer to this text; one octet past the limit, too
+-- long; otherwise the desk failed or memory ran out
 abbrev pub AnswersReads : DeskState → List ℕ → Result (List Order) OrdersFault → Type 0
 AnswersReads now given (Ok orders) = IsAtEnd now.to_come × AnswersText given (Ok orders)
 AnswersReads now given (Err Unread) = length given ≤ 1048576

@@ -13,8 +13,8 @@ use std::alloc::Global;
 use trau_io::Desk;
 use trau_orders::Orders;
 
-// The most octets of a mark and the orders after it.
-const MOST_MARKED_OCTETS: usize = 1_310_720;
+/// The most octets of a mark and the orders after it.
+pub(crate) const MOST_MARKED_OCTETS: usize = 1_310_720;
 
 /// A mark, and the orders after it.
 #[derive(Drop)]
@@ -35,15 +35,15 @@ fn marked_of(alloc: Global, text: &[u8]) -> Result<MarkedOrders, MarkedFault>
     Ok(MarkedOrders { mark, orders })
 }
 
-/// Reads a mark and the orders of a run after it from the desk, to the end of the text or to one octet past its limit of
-/// 1,310,720 octets.
+/// Reads a mark and the orders of a run after it from the desk, to the end of the text or to one octet past its limit
+/// of 1,310,720 octets.
 ///
 /// Errors, in the order in which they are looked for:
 /// - `Orders(Unread)`: the desk failed before that.
 /// - `Orders(TooLong)`: the text has more octets.
 /// - `Mark`: a line isn't in the mark's grammar; the number of the first such line.
-/// - `Orders` with the error of `read_orders` for the orders after the mark. Their lines are counted from the first after
-///   the mark.
+/// - `Orders` with the error of `read_orders` for the orders after the mark. Their lines are counted from the first
+///   after the mark.
 ///
 /// Any answer may be `Orders(Memory)` instead. The memory for the text is allocated before the desk is read.
 pub fn read_marked_orders<D: Desk>(alloc: Global, desk: &mut D) -> Result<MarkedOrders, MarkedFault>

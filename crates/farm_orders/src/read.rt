@@ -17,7 +17,8 @@ pub(crate) fn orders_of(alloc: Global, text: &[u8]) -> Result<Orders, OrdersFaul
     Ok(Orders::parse(alloc, text)?)
 }
 
-/// Reads the orders of a run from the desk, to the end of their text or to one octet past its limit of 1,048,576 octets.
+/// Reads the orders of a run from the desk, to the end of their text or to one octet past its limit of 1,048,576
+/// octets.
 ///
 /// Errors, in the order in which they are looked for:
 /// - `Unread`: the desk failed before that.

@@ -6,7 +6,7 @@ use std::alloc::Global;
 use std::process::Abort;
 
 // The words of a line, which are separated by single spaces.
-fn split(rt: &impl Abort, alloc: Global, line: &str) -> Vec<String> {
+pub(crate) fn split(rt: &impl Abort, alloc: Global, line: &str) -> Vec<String> {
     let mut words = Vec::new(alloc);
     for word in line.split(' ') {
         let word = String::from_str(alloc, word).expect(rt, "memory");
@@ -29,7 +29,8 @@ fn is_answered(
 // The words of a line, and what they ask for.
 #[derive(Drop)]
 enum Row {
-    // Of a run (also up to a mark and from one on) or a drill: the workers, batch, slice and periods, and a drill's seed and calls.
+    // Of a run (also up to a mark and from one on) or a drill: the workers, batch, slice and periods, and a drill's
+    // seed and calls.
     Run(&'static str, [u32; 4], [u32; 2]),
     // Of a live drill: its seed, calls, periods, callers and inbox.
     Live(&'static str, [u32; 5]),

@@ -50,8 +50,8 @@ fn sum_of_line(
     }
 }
 
-// Seed, calls, periods; a call, and the sums of its Up and Pcm line. The Pcm line is quiet for the first 32 periods, then
-// loud for 32, and so on.
+// Seed, calls, periods; a call, and the sums of its Up and Pcm line. The Pcm line is quiet for the first 32 periods,
+// then loud for 32, and so on.
 type Row = (u32, u32, u32, u32, u32, u32);
 
 static SUMS: [Row; 4] = [

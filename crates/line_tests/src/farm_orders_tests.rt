@@ -9,8 +9,8 @@ use trau_io::MemDesk;
 // The number of a read that never happens.
 const NONE: u32 = 9;
 
-// The beginning of a text; an octet and how often it follows; and the read that fails: read 0 gives the whole text, and read 1
-// finds its end.
+// The beginning of a text; an octet and how often it follows; and the read that fails: read 0 gives the whole text, and
+// read 1 finds its end.
 type Text = (&'static [u8], u8, usize, u32);
 
 // The octets of a text.

@@ -5,8 +5,8 @@ ghost use Rattle.std.specs.Prelude.{◌≡◌, ◌<◌, ◌+◌, length};
 use crate::rows::assert_rows;
 use frame_sync::{FrameSync, Yield};
 
-// An uplink frame of good speech, whose octets 2, 4, 6 and so on begin with a sync bit 1; and the same frame without the second
-// of these bits, in which nothing matches.
+// An uplink frame of good speech, whose octets 2, 4, 6 and so on begin with a sync bit 1; and the same frame without
+// the second of these bits, in which nothing matches.
 static GOOD: [u8; 40] = [
     0x00, 0x00, 0x88, 0x00, 0x82, 0x09, 0xBA, 0x1A, 0xE4, 0x28, 0x80, 0x12, 0xA4, 0x92, 0xA4, 0x92,
     0xA2, 0x80, 0x81, 0x24, 0xC9, 0x24, 0xC9, 0x24, 0xA8, 0x00, 0x92, 0x49, 0x92, 0x49, 0x92, 0x45,
@@ -100,8 +100,8 @@ static LATE: [Row; 3] = [
     (Octets::Late(0xFF), Some(Found::Frame(325))),
 ];
 
-// Two misses in a row keep the lock, and the next frame allows two more. The third miss in a row loses it; the hunt from the
-// end of the missed frame on finds the next frame at once. A missed frame has a broken sync bit.
+// Two misses in a row keep the lock, and the next frame allows two more. The third miss in a row loses it; the hunt
+// from the end of the missed frame on finds the next frame at once. A missed frame has a broken sync bit.
 static MISSES: [[Row; 8]; 2] = [
     [
         (Octets::Good, Some(Found::Frame(0))),

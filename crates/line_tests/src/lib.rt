@@ -1,7 +1,10 @@
-//! Tests of the crates that read and write (numbers, bits, frames, lines, files, orders, marks, drills and words), and of the
-//! board, the pool machine and the report.
+//! Tests of the crates that read and write (numbers, bits, frames, lines, files, orders, marks, drills and words), and
+//! of the board, the pool machine and the report.
 //!
-//! They are a crate of their own, since a crate with tests is proved a second time with them. They call public functions only.
+//! Layer: Tests.
+//!
+//! They are a crate of their own, since a crate with tests is proved a second time with them. They call public
+//! functions only.
 #![tactic(auto)]
 
 #[cfg(test)]
@@ -20,6 +23,8 @@ mod farm_report_tests;
 mod frame_sync_tests;
 #[cfg(test)]
 mod pool_core_tests;
+#[cfg(test)]
+mod reasons_tests;
 #[cfg(test)]
 mod rows;
 #[cfg(test)]

@@ -22,7 +22,8 @@ enum Step {
     Remove(&'static str),
     // A file holds these octets.
     Holds(&'static str, &'static [u8]),
-    // A read of at most this many octets, one to four: how many octets it gives (None if it fails), and the buffer afterwards.
+    // A read of at most this many octets, one to four: how many octets it gives (None if it fails), and the buffer
+    // afterwards.
     Reads(Side, usize, Option<usize>, [u8; 4]),
     // A write of these octets: how many the line takes (None if it fails).
     Writes(Side, &'static [u8], Option<usize>),

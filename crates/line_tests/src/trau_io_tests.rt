@@ -45,8 +45,8 @@ fn set(
     set.expect(rt, "memory");
 }
 
-// Up has nine octets, in chunks of 0 (which counts as 1), 2 and 100, and its fourth operation fails. Pcm has ten octets, and
-// Down room for seven, both with chunk sizes.
+// Up has nine octets, in chunks of 0 (which counts as 1), 2 and 100, and its fourth operation fails. Pcm has ten
+// octets, and Down room for seven, both with chunk sizes.
 fn three_lines(rt: &impl Abort, alloc: Global) -> MemTrunk {
     let mut trunk = MemTrunk::new(alloc).expect(rt, "memory");
     let octets = [1, 2, 3, 4, 5, 6, 7, 8, 9];
@@ -101,7 +101,8 @@ fn takes(trunk: &mut MemTrunk, block: &[u8; 6]) -> bool {
     write_all(trunk, DOWN, block).is_ok()
 }
 
-// Whether one whole block is read and written, four octets of the next one are read, and Down has no room for that block.
+// Whether one whole block is read and written, four octets of the next one are read, and Down has no room for that
+// block.
 fn transfers(trunk: &mut MemTrunk) -> bool {
     let mut block = [0; 6];
     let whole = fills(trunk, &mut block, Filled::Whole) && takes(trunk, &block);

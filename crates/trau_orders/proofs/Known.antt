@@ -1,4 +1,5 @@
--- For crates above: the orders that a text's lines spell have numbers in their ranges and stamps that never fall (`orders_known`).
+-- For crates above: the orders that a text's lines spell have numbers in their ranges and stamps that never fall
+-- (`orders_known`).
 use Rattle.std.proofs.Common.{◌≡◌, ℕ, ◌+◌, ◌-◌, ◌≤◌, ◌<◌, List, length, get_or, arith, zero, suc, subst}
 use Rattle.trau_orders.specs.declared.order.What.{What}
 use Rattle.trau_orders.specs.declared.order.What.TheVariants.{OpenCall, CloseCall, Bridge, Unbridge, Level, Dtx}

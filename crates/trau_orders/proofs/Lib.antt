@@ -3,5 +3,6 @@ mod Words
 mod OneOrder
 pub mod TextLines
 mod Reading
+mod Going
 pub mod Known
 mod FirstBad

@@ -28,7 +28,8 @@ pub record AreLines (lines : List (List ℕ)) (orders : List Order) : Type 0 whe
 abbrev pub IsNoEarlier : List Order → Order → Type 0
 IsNoEarlier orders order = (d : Order) → 0 < length orders → (get_or orders (length orders - 1) d).stamp ≤ order.stamp
 
--- line n, counted from 1, is the first that isn't in the grammar: the lines before it spell orders, and together with it they don't
+-- line n, counted from 1, is the first that isn't in the grammar: the lines before it spell orders, and together with
+-- it they don't
 pub record IsFirstBad (lines : List (List ℕ)) (n : ℕ) : Type 0 where
   pub at_least : 1 ≤ n
   pub at_most : n ≤ length lines

@@ -13,7 +13,8 @@ use call_number::LAST_CALL;
 use decimal_number::{number_of_octets, split_at_octet};
 use trau_alaw::Law;
 
-const LAST_STAMP: u32 = 4_294_967_294;
+/// The highest stamp of an order.
+pub(crate) const LAST_STAMP: u32 = 4_294_967_294;
 
 const HIGHEST_LEVEL: u32 = 32_767;
 
@@ -84,22 +85,24 @@ fn is_word(word: &[u8], name: &[u8]) -> bool
     word == name
 }
 
-fn call_of(word: &[u8]) -> Option<u32>
+/// The call that a word spells.
+pub(crate) fn call_of(word: &[u8]) -> Option<u32>
     ensures some { IfSome result (λ call. IsCallNumber call × (word.now ≡ decimal call)) }
     ensures none { IsNone result → (call : ℕ) → IsCallNumber call → word.now ≡ decimal call → ⊥ }
 {
     number_of_octets(word, 1, LAST_CALL)
 }
 
-// The law that a word names. A-law has no word.
-fn law_of(word: &[u8]) -> Option<Law>
+/// The law that a word names. A-law has no word.
+pub(crate) fn law_of(word: &[u8]) -> Option<Law>
     ensures some { IfSome result (λ law. (law ≡ Mu) × (word.now ≡ codes "mulaw")) }
     ensures none { IsNone result → word.now ≡ codes "mulaw" → ⊥ }
 {
     is_word(word, b"mulaw").then_some(Law::Mu)
 }
 
-fn level_of(word: &[u8]) -> Option<i16>
+/// The level that a word spells.
+pub(crate) fn level_of(word: &[u8]) -> Option<i16>
     ensures some { IfSome result (λ v. (pos 0 ≤ℤ v) × (v ≤ℤ pos 32767) × (word.now ≡ decimal (unsigned_abs v))) }
     ensures none { IsNone result → (v : ℤ) → pos 0 ≤ℤ v → v ≤ℤ pos 32767 → word.now ≡ decimal (unsigned_abs v) → ⊥ }
 {
@@ -107,7 +110,8 @@ fn level_of(word: &[u8]) -> Option<i16>
     Some(level as i16)
 }
 
-fn mode_of(word: &[u8]) -> Option<DtxMode>
+/// The mode that a word names.
+pub(crate) fn mode_of(word: &[u8]) -> Option<DtxMode>
     ensures some { IfSome result (λ mode. word.now ≡ mode_word mode) }
     ensures none { IsNone result → (mode : Mode) → word.now ≡ mode_word mode → ⊥ }
 {

@@ -10,8 +10,8 @@ use crate::{Order, OrderFault};
 use decimal_number::split_at_octet;
 use std::alloc::Global;
 
-// The first line of a text, without its LF, and the rest of the text.
-fn split_line(text: &[u8]) -> Option<(&[u8], &[u8])>
+/// The first line of a text, without its LF, and the rest of the text.
+pub(crate) fn split_line(text: &[u8]) -> Option<(&[u8], &[u8])>
     ensures some { IfSome result (λ parts. text_lines text.now ≡ parts.0.now ∷ text_lines parts.1.now) }
     ensures shorter { IfSome result (λ parts. length parts.1.now < length text.now) }
     ensures none { IsNone result → text.now ≡ [] }

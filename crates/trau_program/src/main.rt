@@ -1,19 +1,30 @@
 //! The program `trau`: the top function over the files of the current folder and the standard streams.
 //!
-//! Makes the desk of the standard streams (`StdDesk`: the orders of a run come in, texts go out), calls the top function over files
-//! (`files_top`) with the words of the command line, and exits with the status that it returns. Only what happens before the command
-//! is decided here: words that aren't UTF-8, and running out of memory. Why something failed goes to
-//! standard error; no clause speaks of it. The statuses are this project's profile. Definitions: `specs/Refusals.antt`.
+//! Layer: The top function and the program.
+//!
+//! Makes the desk of the standard streams (`StdDesk`: the orders of a run come in, texts go out), calls the top
+//! function over files (`files_top`) with the words of the command line, and exits with the status that it returns.
+//! Only what happens before the command is decided here: words that aren't UTF-8, and running out of memory. Why
+//! something failed, or why words or orders aren't taken (`reasons`, which has the octets of the orders from `kept`),
+//! and that an Up line is a downlink (`downlinks`), goes to standard error; no clause speaks of it. The statuses are
+//! this project's profile. Definitions: `specs/Refusals.antt`.
 #![tactic(auto)]
+
+mod downlinks;
+mod kept;
+mod reasons;
 
 ghost use Rattle.std.specs.Prelude.{◌≡◌};
 ghost use Rattle.farm_top.specs.Farm.{TextOut};
 ghost use Rattle.trau_program.specs.declared.Refusal.TheVariants.{NoMemory};
 ghost use Rattle.trau_program.specs.Refusals.{status_of, text_of};
 
+use downlinks::tell_downlinks;
 use farm_top::{NO_MEMORY, USAGE};
 use files_top::files_top;
+use kept::Kept;
 use pool_run::OpenGate;
+use reasons::tell_reason;
 use std::alloc::AllocError;
 use std::io::{ErrorKind, Read, Write};
 use std::process::ExitCode;
@@ -70,17 +81,20 @@ fn words_given<R: Env + AllocGlobal>(rt: &R) -> Result<Vec<String>, Refusal> {
     }
 }
 
-// The status of the top function. Why lines failed is printed as they fail, and at the end for how many it wasn't.
+// The status of the top function. Why lines failed is printed as they fail, and at the end for how many it wasn't, why
+// words or orders weren't taken, and which Up lines are downlinks.
 fn run<
     R: Env + Eprint + Files + AllocGlobal + Threads + Wait + Sync,
     I: Read + Drop,
     O: Write + Drop,
->(rt: &R, desk: &mut StdDesk<I, O>) -> Result<u8, Refusal> {
+>(rt: &R, desk: &mut StdDesk<Kept<I>, O>) -> Result<u8, Refusal> {
     let words = words_given(rt)?;
     let Ok((status, files)) = files_top(rt, rt.alloc(), &words, rt, desk, &OpenGate) else {
         return Err(Refusal::NoMemory);
     };
     files.tell_rest();
+    tell_reason(rt, status, &words, desk.input().octets());
+    tell_downlinks(rt, status, &words, desk.input().octets());
     Ok(status)
 }
 
@@ -104,7 +118,7 @@ fn refuse<D: Desk>(desk: &mut D, refusal: Refusal) -> u8
 }
 
 fn main(rt: HostRuntime) -> ExitCode {
-    let mut desk = StdDesk::new(rt.reader(), io::writer(&rt));
+    let mut desk = StdDesk::new(Kept::new(rt.alloc(), rt.reader()), io::writer(&rt));
     let status = match run(&rt, &mut desk) {
         Ok(status) => status,
         Err(refusal) => refuse(&mut desk, refusal),

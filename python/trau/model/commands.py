@@ -26,6 +26,7 @@ from trau.rules.search import FRAME, end_of_text, yields_by_period
 from trau.rules.slots import merge, split
 from trau.rules.numbers import number
 
+from trau.model import reasons
 from trau.model.basestation import answers, heard_by_period
 from trau.model.codec import FullRateDecoder, FullRateEncoder
 from trau.model.outside import Desk, Given, Lines, Status
@@ -272,6 +273,7 @@ def command(words: Sequence[str], lines: Lines, desk: Desk) -> Optional[int]:
     numbers = asked(words)
     if numbers is None:
         desk.write("usage\n")
+        desk.explain(reasons.of_words(words))
         return int(Status.USAGE)
     try:
         write_text(desk, COMMANDS[words[0]].work(*numbers, lines, desk))

@@ -8,6 +8,7 @@ writes, the model names the outgoing line also where a run of rounds names the i
 
 import os
 import stat
+import sys
 from pathlib import Path
 from typing import Callable, Dict, List, Optional, Tuple
 
@@ -146,3 +147,11 @@ class StandardStreams:
         output failed (docs/FILES.md)."""
         octets = text.encode("ascii")
         return write_all(self._writes, octets) == len(octets)
+
+    def explain(self, why: str) -> None:
+        """Says on standard error why nothing was done; what can't be said there is left unsaid
+        (docs/COMMANDS.md, "Why it refuses")."""
+        try:
+            print(f"trau: {why}", file=sys.stderr)
+        except OSError:
+            pass

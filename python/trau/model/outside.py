@@ -50,6 +50,9 @@ class Desk(Protocol):
         """Writes a text to standard output. False: that failed, and a proper prefix of it went
         out."""
 
+    def explain(self, why: str) -> None:
+        """Says on standard error why nothing was done (docs/COMMANDS.md, "Why it refuses")."""
+
 
 Place = Tuple[int, str]
 
@@ -104,6 +107,7 @@ class MemoryDesk:
         self.room = room  # octets that standard output takes
         self.place = 0
         self.texts: List[str] = []
+        self.reasons: List[str] = []
 
     @property
     def text(self) -> str:
@@ -121,3 +125,7 @@ class MemoryDesk:
         room = len(text) if self.room is None else self.room - len(self.text)
         self.texts.append(text[:room])
         return room >= len(text)
+
+    def explain(self, why: str) -> None:
+        """As `Desk.explain`."""
+        self.reasons.append(why)

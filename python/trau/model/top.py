@@ -1,11 +1,12 @@
 """The whole program: words, lines and standard streams in, a status out (docs/commands)."""
 
-from typing import List, Optional, Sequence, Tuple
+from typing import List, Sequence, Tuple
 
 from trau.rules import profile
 from trau.rules.orders import BadLine, Order, TooLong, orders_of
 from trau.rules.report import FailedLine, text_of
 
+from trau.model import reasons
 from trau.model.checkpoint import differs, mark_of, read_mark, text_of_mark
 from trau.model.commands import command
 from trau.model.drill import drill_text, live_text
@@ -23,11 +24,13 @@ from trau.model.words import Asked, asked
 
 
 class Failure(Exception):
-    """Why a command did nothing: its status, and the line of text that says so."""
+    """Why a command did nothing: its status, the line of text that says so, and where there is
+    one, the reason for standard error."""
 
-    def __init__(self, status: Status, line: str) -> None:
+    def __init__(self, status: Status, line: str, why: str = "") -> None:
         super().__init__(line)
         self.status = status
+        self.why = why
 
 
 def top(words: Sequence[str], lines: Lines, desk: Desk) -> int:
@@ -38,16 +41,19 @@ def top(words: Sequence[str], lines: Lines, desk: Desk) -> int:
     if of_a_line is not None:
         return of_a_line
     try:
-        return int(_others(asked(words), lines, desk))
+        return int(_others(words, lines, desk))
     except Failure as failure:
         desk.write(text_of([str(failure)]))
+        if failure.why:
+            desk.explain(failure.why)
         return int(failure.status)
 
 
-def _others(command: Optional[Asked], lines: Lines, desk: Desk) -> Status:
+def _others(words: Sequence[str], lines: Lines, desk: Desk) -> Status:
     """Carries out `run`, `save`, `resume`, `drill` or `live` (docs/commands)."""
+    command = asked(words)
     if command is None:
-        raise Failure(Status.USAGE, "usage")
+        raise Failure(Status.USAGE, "usage", reasons.of_words(words))
     if command.command in ("drill", "live"):
         text = drill_text if command.command == "drill" else live_text
         return say(text(command.seed, command.calls, command.periods), False, desk)
@@ -80,7 +86,9 @@ def read_orders(text: bytes) -> List[Order]:
     except TooLong:
         raise Failure(Status.TOO_LONG, "orders too long") from None
     except BadLine as bad:
-        raise Failure(Status.BAD_LINE, f"orders line {bad.line}") from None
+        raise Failure(
+            Status.BAD_LINE, f"orders line {bad.line}", reasons.of_orders(text, bad.line)
+        ) from None
 
 
 def work(command: Asked, lines: Lines, desk: Desk) -> Tuple[Farm, List[FailedLine]]:
@@ -121,7 +129,7 @@ def resume(command: Asked, lines: Lines, desk: Desk) -> Status:
     try:
         mark, rest = read_mark(read_desk(profile.MOST_MARKED_OCTETS, desk))
     except BadLine as bad:
-        raise Failure(Status.BAD_LINE, f"save line {bad.line}") from None
+        raise Failure(Status.BAD_LINE, f"save line {bad.line}", reasons.of_mark(bad.line)) from None
     orders = read_orders(rest)
     periods = max(mark.period, command.periods)
     incoming = read_incoming(orders, periods, lines)

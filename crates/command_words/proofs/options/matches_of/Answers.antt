@@ -35,8 +35,8 @@ returns-clause-taken c =
     subst (λ (app : App). IfOk c.matches_in.result (λ _. is_simple_and_free app ≡ true → fault_of app (map (λ w. string_bytes w) c.args.words.now) ≡ []))
     same c.matches_in.ensures.taken
 
-pub returns-clause-usage : goal.returns-clause-usage
-returns-clause-usage c = λ usage simple none.
+pub returns-clause-words : goal.returns-clause-words
+returns-clause-words c = λ reason words simple none.
     let same = all_names _ _ c.args.names.now c.loop-long.long-index c.loop-long.invariant (omega arith) in
-    c.matches_in.ensures.usage usage (ap is_simple_and_free same ∙ simple)
+    c.matches_in.ensures.words reason words (ap is_simple_and_free same ∙ simple)
     (ap (λ (app : App). fault_of app (map (λ w. string_bytes w) c.args.words.now)) same ∙ none)
