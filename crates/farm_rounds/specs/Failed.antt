@@ -43,8 +43,9 @@ was_failed Sound = false
 was_failed FailedBefore = true
 was_failed FailedNow = false
 
--- What the state of a call's lines in a round says of the lines that failed before it: none of the incoming ones did, and it knows
--- which of the outgoing ones did. An incoming line that failed in the round gave fewer octets than the round takes of it.
+-- What the state of a call's lines in a round says of the lines that failed before it: none of the incoming ones did,
+-- and it knows which of the outgoing ones did. An incoming line that failed in the round gave fewer octets than the
+-- round takes of it.
 pub record KnowsCallLines (lines : List Line) (p : LinesMemory) : Type 0 where
   pub up : is_listed lines p.call Up ≡ false
   pub pcm : is_listed lines p.call Pcm ≡ false

@@ -29,8 +29,8 @@ whose c h = record { number = c; law = h.law }
 abbrev pub tally_of : List CallPeriod → Settings → Tally
 tally_of ts now = record { counts = call_counts ts; sent = sent_now ts now }
 
--- A possible history of a call: of an open call one that leads to its leg, whose settings say whether it is bridged; of any
--- other call none.
+-- A possible history of a call: of an open call one that leads to its leg, whose settings say whether it is bridged; of
+-- any other call none.
 abbrev pub CallStands : ℕ → Option CallHistory → Option Call → Option ℕ → Type 0
 CallStands c None None partner = partner ≡ None
 CallStands c (Some h) (Some x) partner =

@@ -6,8 +6,8 @@ use Rattle.call_leg.specs.Counted.{no_counts}
 use Rattle.farm_rounds.specs.Calls.{Kept}
 use Rattle.farm_rounds.specs.declared.tally.Tally.{Tally}
 
--- the open calls with their partners; the open calls' numbers; the tally of each ended call, at the index of its number; the
--- lines that failed; and the first period after the last round
+-- the open calls with their partners; the open calls' numbers; the tally of each ended call, at the index of its
+-- number; the lines that failed; and the first period after the last round
 pub record FarmMemory : Type 0 where
   pub calls : List Kept
   pub live : List ℕ

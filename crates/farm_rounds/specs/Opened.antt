@@ -12,14 +12,14 @@ use Rattle.call_pair.specs.Phases.{turn_down, hear_from, leg_in, periods_left}
 use Rattle.call_pair.specs.declared.call_job.Phase.TheVariants.{First}
 use Rattle.farm_rounds.specs.Numbers.{IsRising, is_among}
 use Rattle.round_lines.specs.Memory.{whole_in}
-use Rattle.round_lines.specs.Seats.{Fits}
+use Rattle.round_lines.specs.Portions.{Fits}
 use Rattle.farm_rounds.specs.declared.open.OpenCall.{OpenCall}
 use Rattle.std.specs.Option.{option_map}
 use Rattle.farm_rounds.specs.Calls.{Kept, kept_in}
 use Rattle.farm_rounds.specs.Acts.{parted_call}
 use Rattle.farm_rounds.specs.declared.tally.Tally.{Tally}
 use Rattle.farm_rounds.specs.Histories.{tally_of}
-use Rattle.farm_rounds.specs.Opens.{IsOpenCall, kept_of, opens_in, new_open, with_job, open_begun, goes_on_open, same_seat, same_call}
+use Rattle.farm_rounds.specs.Opens.{IsOpenCall, kept_of, opens_in, new_open, with_job, open_begun, goes_on_open, same_portion, same_call}
 
 abbrev pub no_open : OpenCall
 no_open = new_open 0 A
@@ -28,7 +28,8 @@ no_open = new_open 0 A
 abbrev pub open_at : List (Box OpenCall) → ℕ → OpenCall
 open_at boxes k = slice_index_or (opens_in boxes) k no_open
 
--- what the types of a call's octets and lines keep true: its octets fit together, and no more periods came than were planned
+-- what the types of a call's octets and lines keep true: its octets fit together, and no more periods came than were
+-- planned
 abbrev pub OctetsFit : OpenCall → Type 0
 OctetsFit o = IsIo o.job.io × (whole_in o.lines ≤ o.lines.periods)
 
@@ -39,8 +40,8 @@ HasBuffers o = Fits o.lines.periods o.job.io.up o.job.io.pcm o.job.io.down o.job
 abbrev pub open_numbered : List OpenCall → ℕ → OpenCall
 open_numbered opens c = unwrap_or (find (λ o. o.job.io.call == c) opens) no_open
 
-abbrev pub same_seats : List (Box OpenCall) → List OpenCall
-same_seats boxes = map same_seat (opens_in boxes)
+abbrev pub same_portions : List (Box OpenCall) → List OpenCall
+same_portions boxes = map same_portion (opens_in boxes)
 
 abbrev pub same_calls : List (Box OpenCall) → List OpenCall
 same_calls boxes = map same_call (opens_in boxes)
@@ -127,7 +128,8 @@ pub record IsTold (opens : List OpenCall) (o : OpenCall) : Type 0 where
 
 -- ---- between the rounds
 
--- `live` lists the calls in rising order, each is in its first phase, and both halves of its leg are bridged exactly if it has a partner
+-- `live` lists the calls in rising order, each is in its first phase, and both halves of its leg are bridged exactly if
+-- it has a partner
 pub record AreListed (live : List ℕ) (opens : List OpenCall) : Type 0 where
   pub listed : live ≡ map (λ o. o.job.io.call) opens
   pub rising : IsRising live

@@ -11,7 +11,7 @@ use Rattle.call_pair.specs.declared.call_job.Phase.TheVariants.{First}
 use Rattle.round_lines.specs.Transfer.{has_failed}
 use Rattle.round_lines.specs.declared.transfer.Outlet.TheVariants.{Sound}
 use Rattle.round_lines.specs.Memory.{LinesMemory, fresh_lines, nothing_taken, whole_in}
-use Rattle.round_lines.specs.Seats.{SeatMemory}
+use Rattle.round_lines.specs.Portions.{PortionMemory}
 use Rattle.farm_rounds.specs.declared.calls.Calls.{Calls}
 use Rattle.farm_rounds.specs.declared.open.OpenCall.{OpenCall}
 use Rattle.farm_rounds.specs.Calls.{Kept, partner_in}
@@ -37,8 +37,8 @@ kept_of o = record {
 abbrev pub calls_of : List (Box OpenCall) → List Kept
 calls_of boxes = map kept_of (opens_in boxes)
 
-abbrev pub seat_with : LinesMemory → IoMemory → SeatMemory
-seat_with lines io = record {
+abbrev pub portion_with : LinesMemory → IoMemory → PortionMemory
+portion_with lines io = record {
   lines = lines;
   up = io.up;
   pcm = io.pcm;
@@ -46,11 +46,11 @@ seat_with lines io = record {
   out = io.out;
 }
 
-abbrev pub seat_of_open : OpenCall → SeatMemory
-seat_of_open o = seat_with o.lines o.job.io
+abbrev pub portion_of_open : OpenCall → PortionMemory
+portion_of_open o = portion_with o.lines o.job.io
 
-abbrev pub seats_of : List (Box OpenCall) → List SeatMemory
-seats_of boxes = map seat_of_open (opens_in boxes)
+abbrev pub portions_of : List (Box OpenCall) → List PortionMemory
+portions_of boxes = map portion_of_open (opens_in boxes)
 
 -- what is seen of the calls of a farm
 abbrev pub farm_of : Calls → FarmMemory
@@ -86,8 +86,8 @@ open_planned n o = record {
 }
 
 -- a call without the octets and the marks of its incoming lines
-abbrev pub same_seat : OpenCall → OpenCall
-same_seat o = record {
+abbrev pub same_portion : OpenCall → OpenCall
+same_portion o = record {
   job = record o.job { io = record o.job.io { up = []; pcm = [] } };
   lines = record o.lines { up = nothing_taken; pcm = nothing_taken };
   partner = o.partner;
@@ -131,7 +131,8 @@ open_rested live o = record {
 
 -- ---- between the rounds
 
--- an open call whose leg has processed at most `most` periods: both halves of the leg are bridged exactly if it has a partner
+-- an open call whose leg has processed at most `most` periods: both halves of the leg are bridged exactly if it has a
+-- partner
 pub record IsOpenCall (most : ℕ) (o : OpenCall) : Type 0 where
   pub number : IsCallNumber o.job.io.call
   pub lines : o.lines.call ≡ o.job.io.call

@@ -1,11 +1,11 @@
 -- The octets of a round (this project's profile).
 use Rattle.std.specs.Prelude.{◌≡◌, ◌*◌, ◌<◌, true}
 use Rattle.round_lines.specs.Memory.{LinesMemory, nothing_taken, whole_in}
-use Rattle.round_lines.specs.Seats.{SeatMemory}
+use Rattle.round_lines.specs.Portions.{PortionMemory}
 use Rattle.call_pair.specs.Memory.{IoMemory}
 
--- what its call's job takes of a seat: its octets, of which the whole periods are given
-abbrev pub io_of : SeatMemory → IoMemory
+-- what its call's job takes of a portion: its octets, of which the whole periods are given
+abbrev pub io_of : PortionMemory → IoMemory
 io_of s = record {
   call = s.lines.call;
   up = s.up;

@@ -1,9 +1,9 @@
-//! What orders do to the open calls. A bridge is started, or ended, in one phone call after the other. In between only one
-//! of the two has a partner, which the farm's invariant forbids. So these functions take the lists and not the farm.
+//! What orders do to the open calls. A bridge is started, or ended, in one phone call after the other. In between only
+//! one of the two has a partner, which the farm's invariant forbids. So these functions take the lists and not the
+//! farm.
 
-ghost use Rattle.std.specs.Prelude.{◌≡◌, ℕ, List, Some, None, true, is_some, IfOk, IfErr, IfSome};
-ghost use Rattle.switchboard.specs.declared.act.Act.TheVariants.{Opened, Closed};
-ghost use Rattle.switchboard.specs.Replies.{IsInRange};
+ghost use Rattle.std.specs.Prelude.{◌≡◌, ℕ, pos, ◌≤ℤ◌, List, Some, None, true, is_some, IfOk, IfErr, IfSome};
+ghost use Rattle.switchboard.specs.declared.act.Act.TheVariants.{Opened, Closed, LevelSet, DtxSet};
 ghost use Rattle.call_leg.specs.Periods.{CallPeriod};
 ghost use Rattle.call_leg.specs.Settings.{Settings};
 ghost use Rattle.call_leg.specs.Stands.{Stands};
@@ -21,6 +21,7 @@ use crate::tally::Tally;
 use std::alloc::{AllocError, Global};
 use switchboard::Act;
 use trau_alaw::Law;
+use trau_orders::DtxMode;
 
 /// Opens a call with this law. No other act takes memory. On an error nothing has changed.
 pub(crate) fn open(
@@ -69,15 +70,25 @@ fn end_bridge(calls: &mut [Box<OpenCall>], live: &[u32], call: u32)
     calls[index_of(live, call)].end_bridge();
 }
 
-// Sets a call's level or its DTX mode, whichever the act names.
-fn set(calls: &mut [Box<OpenCall>], live: &[u32], call: u32, act: &Act)
+// Sets the level of a call.
+fn set_level(calls: &mut [Box<OpenCall>], live: &[u32], call: u32, level: i16)
     requires listed { AreListed live.now (opens_in calls.old) }
     requires there { is_among live.now call ≡ true }
-    requires range { IsInRange act.now }
-    ensures { IsChanged call (λ k. record { call = set_by act.now k.call; partner = k.partner })
+    requires range { pos 0 ≤ℤ level }
+    ensures { IsChanged call (λ k. record { call = set_by (LevelSet call level) k.call; partner = k.partner })
         (opens_in calls.old) (opens_in calls.new) }
 {
-    calls[index_of(live, call)].set(act);
+    calls[index_of(live, call)].job.set_level(level);
+}
+
+// Sets the DTX mode of a call.
+fn set_dtx(calls: &mut [Box<OpenCall>], live: &[u32], call: u32, mode: DtxMode)
+    requires listed { AreListed live.now (opens_in calls.old) }
+    requires there { is_among live.now call ≡ true }
+    ensures { IsChanged call (λ k. record { call = set_by (DtxSet call mode) k.call; partner = k.partner })
+        (opens_in calls.old) (opens_in calls.new) }
+{
+    calls[index_of(live, call)].job.set_dtx(mode);
 }
 
 /// Applies an act that neither opens nor ends a call.
@@ -100,7 +111,8 @@ pub(crate) fn change(calls: &mut [Box<OpenCall>], live: &[u32], act: &Act)
             end_bridge(calls, live, a);
             end_bridge(calls, live, b);
         }
-        Act::LevelSet { call, .. } | Act::DtxSet { call, .. } => set(calls, live, call, act),
+        Act::LevelSet { call, level } => set_level(calls, live, call, level),
+        Act::DtxSet { call, mode } => set_dtx(calls, live, call, mode),
     }
 }
 

@@ -4,12 +4,12 @@ ghost use Rattle.std.specs.Prelude.{◌≡◌, ◌≢◌, ◌+◌, ◌-◌, ◌*
 ghost use Rattle.std.specs.List.{All, filter_map};
 ghost use Rattle.call_number.specs.declared.TheConstants.{NUMBERS};
 ghost use Rattle.round_lines.specs.Memory.{failed_in_round, line_name};
-ghost use Rattle.round_lines.specs.Seats.{Fills, Drains};
-ghost use Rattle.round_lines.specs.Rounds.{Rising, Each, KeepsButEach, IsIncoming, IsOutgoing, EndsWithin, seat_end};
+ghost use Rattle.round_lines.specs.Portions.{Fills, Drains};
+ghost use Rattle.round_lines.specs.Rounds.{Rising, Each, KeepsButEach, IsIncoming, IsOutgoing, EndsWithin, portion_end};
 ghost use Rattle.farm_rounds.specs.Memory.{tally_in};
 ghost use Rattle.farm_rounds.specs.Numbers.{IsRising};
-ghost use Rattle.farm_rounds.specs.Opens.{opens_in, seats_of, IsOpenCall, with_job, open_planned, goes_on_open, open_rested};
-ghost use Rattle.farm_rounds.specs.Opened.{open_at, same_seats, same_calls, standings, end_beside, all_begun, all_met, TallyKept, HasBuffers, ArePaired, IsReady, OctetsFit, IsTold};
+ghost use Rattle.farm_rounds.specs.Opens.{opens_in, portions_of, IsOpenCall, with_job, open_planned, goes_on_open, open_rested};
+ghost use Rattle.farm_rounds.specs.Opened.{open_at, same_portions, same_calls, standings, end_beside, all_begun, all_met, TallyKept, HasBuffers, ArePaired, IsReady, OctetsFit, IsTold};
 ghost use Rattle.call_pair.specs.Phases.{hear_from, periods_left};
 ghost use Rattle.call_pair.specs.declared.call_job.Phase.TheVariants.{First};
 
@@ -19,8 +19,8 @@ use crate::tally::Tally;
 use std::alloc::AllocError;
 use trau_io::{CallEnd, Line, Trunk};
 
-/// The open calls, what was counted of each ended call, and the lines that have failed. `Farm`, `Round` and `Worked` each
-/// have one. What holds of the calls in it differs, so it has no invariant of its own.
+/// The open calls, what was counted of each ended call, and the lines that have failed. `Farm`, `Round` and `Worked`
+/// each have one. What holds of the calls in it differs, so it has no invariant of its own.
 #[derive(Drop)]
 pub(crate) struct Calls {
     /// In rising order of their numbers, which `live` lists.
@@ -50,14 +50,14 @@ pub(crate) fn plan_all(calls: &mut [Box<OpenCall>], periods: u32) -> Result<(), 
 
 /// Reads the incoming lines of each call.
 pub(crate) fn fill_all<T: Trunk>(trunk: &mut T, calls: &mut [Box<OpenCall>])
-    requires rising { Rising (seats_of calls.old) }
+    requires rising { Rising (portions_of calls.old) }
     requires fits { All HasBuffers (opens_in calls.old) }
-    ensures fills { Each Fills (T.lines trunk.old) (T.lines trunk.new) (seats_of calls.old)
-        (seats_of calls.new) (length calls.old) }
+    ensures fills { Each Fills (T.lines trunk.old) (T.lines trunk.new) (portions_of calls.old)
+        (portions_of calls.new) (length calls.old) }
     ensures others { KeepsButEach IsIncoming (T.lines trunk.old) (T.lines trunk.new)
-        (seats_of calls.old) (length calls.old) }
-    ensures kept { same_seats calls.new ≡ same_seats calls.old }
-    ensures rising { Rising (seats_of calls.new) }
+        (portions_of calls.old) (length calls.old) }
+    ensures kept { same_portions calls.new ≡ same_portions calls.old }
+    ensures rising { Rising (portions_of calls.new) }
 {
     for call in calls.iter_mut() {
         call.fill(trunk);
@@ -132,12 +132,12 @@ pub(crate) fn meet_all(calls: &mut [Box<OpenCall>], live: &[u32])
 
 /// Writes the outgoing lines of each call.
 pub(crate) fn drain_all<T: Trunk>(trunk: &mut T, calls: &mut [Box<OpenCall>])
-    requires rising { Rising (seats_of calls.old) }
+    requires rising { Rising (portions_of calls.old) }
     requires fits { All HasBuffers (opens_in calls.old) }
-    ensures drains { Each Drains (T.lines trunk.old) (T.lines trunk.new) (seats_of calls.old)
-        (seats_of calls.new) (length calls.old) }
+    ensures drains { Each Drains (T.lines trunk.old) (T.lines trunk.new) (portions_of calls.old)
+        (portions_of calls.new) (length calls.old) }
     ensures others { KeepsButEach IsOutgoing (T.lines trunk.old) (T.lines trunk.new)
-        (seats_of calls.old) (length calls.old) }
+        (portions_of calls.old) (length calls.old) }
     ensures kept { same_calls calls.new ≡ same_calls calls.old }
 {
     for call in calls.iter_mut() {
@@ -145,18 +145,19 @@ pub(crate) fn drain_all<T: Trunk>(trunk: &mut T, calls: &mut [Box<OpenCall>])
     }
 }
 
-/// Appends the ends of the calls that end in the round that begins at period `start`. `ends` has room for one end per call.
+/// Appends the ends of the calls that end in the round that begins at period `start`. `ends` has room for one end per
+/// call.
 pub(crate) fn list_ends(calls: &[Box<OpenCall>], start: u32, ends: &mut Vec<CallEnd>)
-    requires within { EndsWithin start (seats_of calls.now) }
+    requires within { EndsWithin start (portions_of calls.now) }
     requires room { vec_len ends.old + length calls.now ≤ vec_capacity ends.old }
     ensures listed { ends.new.items ≡ ends.old.items
-        ++ filter_map (seat_end start) (seats_of calls.now) }
+        ++ filter_map (portion_end start) (portions_of calls.now) }
 
     // For the prover: what the types of each call's octets and lines keep true.
     ensures sound { All OctetsFit (opens_in calls.now) }
 {
     for call in calls {
-        call.octets_fit();
+        crate::laws::octets_fit(call);
         if let Some(end) = call.lines.end(start) {
             ends.push_reserved(end);
         }
@@ -168,7 +169,7 @@ pub(crate) fn list_ends(calls: &[Box<OpenCall>], start: u32, ends: &mut Vec<Call
 pub(crate) fn list_failed(calls: &[Box<OpenCall>], failed: &mut Vec<Line>)
     requires room { vec_len failed.old + 4 * length calls.now ≤ vec_capacity failed.old }
     ensures { map line_name failed.new.items ≡ map line_name failed.old.items
-        ++ flat_map (λ s. failed_in_round s.lines) (seats_of calls.now) }
+        ++ flat_map (λ s. failed_in_round s.lines) (portions_of calls.now) }
 {
     for call in calls {
         call.lines.list_failed(failed);

@@ -71,8 +71,8 @@ impl Farm {
     }
 
     /// Applies an accepted order to the calls, before the first round or between two rounds. Only an order that opens a
-    /// call takes memory. On an error nothing has changed. `fresh`: no line of a call that is opened may have failed. The
-    /// board opens each number once, so none has.
+    /// call takes memory. On an error nothing has changed. `fresh`: no line of a call that is opened may have failed.
+    /// The board opens each number once, so none has.
     pub fn apply(&mut self, alloc: Global, act: &Act) -> Result<(), AllocError>
         requires fits { ActFits self.old.calls act.now }
         requires fresh { NoneListed act.now self.old.failed }
@@ -87,9 +87,9 @@ impl Farm {
         ensures refused { IfErr result (λ e. self.new ≡ self.old) }
         ensures memory { IfErr result (λ e. IsOpening act.now) }
 
-        // For every history `h` that is possible for these calls (`CallsStand h`): afterwards they have the histories after
-        // the act, and the tally of a call that it ends is kept. The premise `NoneWaitsIn`: if the act starts a bridge, no
-        // handed frame waits in its two calls.
+        // For every history `h` that is possible for these calls (`CallsStand h`): afterwards they have the histories
+        // after the act, and the tally of a call that it ends is kept. The premise `NoneWaitsIn`: if the act starts a
+        // bridge, no handed frame waits in its two calls.
         ensures history { IfOk result (λ u. (h : ℕ → Option CallHistory) → NoneWaitsIn act.now h →
             CallsStand h self.old.calls → CallsStand (histories_after act.now h) self.new.calls) }
         ensures tallies { IfOk result (λ u. (h : ℕ → Option CallHistory) →
@@ -178,7 +178,8 @@ impl Farm {
         self.tally(call).counts
     }
 
-    /// How many handed frames of its latest bridge a call sent, so far or until the call ended; 0 before its first bridge.
+    /// How many handed frames of its latest bridge a call sent, so far or until the call ended; 0 before its first
+    /// bridge.
     pub fn sent(&self, call: u32) -> u32
         requires { IsCallNumber call }
         ensures live { (h : ℕ → Option CallHistory) (x : CallHistory) →

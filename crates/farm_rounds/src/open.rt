@@ -6,18 +6,16 @@ ghost use Rattle.call_leg.specs.Who.{Who};
 ghost use Rattle.call_leg.specs.Periods.{CallPeriod};
 ghost use Rattle.call_leg.specs.Settings.{Settings};
 ghost use Rattle.call_leg.specs.Stands.{Stands};
-ghost use Rattle.call_pair.specs.Memory.{IsIo};
 ghost use Rattle.call_pair.specs.Phases.{leg_in, hear_from, turn_down, periods_left};
 ghost use Rattle.call_pair.specs.declared.call_job.Phase.TheVariants.{First};
 ghost use Rattle.round_lines.specs.Transfer.{has_failed};
 ghost use Rattle.round_lines.specs.Memory.{whole_in};
-ghost use Rattle.round_lines.specs.Seats.{Fits, Fills, Drains, down_given, out_given};
+ghost use Rattle.round_lines.specs.Portions.{Fits, Fills, Drains, down_given, out_given};
 ghost use Rattle.round_lines.specs.Rounds.{KeepsBut, IsIncoming, IsOutgoing};
-ghost use Rattle.switchboard.specs.Replies.{IsInRange};
-ghost use Rattle.farm_rounds.specs.Acts.{bridged_call, parted_call, set_by};
+ghost use Rattle.farm_rounds.specs.Acts.{bridged_call, parted_call};
 ghost use Rattle.farm_rounds.specs.Histories.{tally_of};
-ghost use Rattle.farm_rounds.specs.Opens.{IsOpenCall, kept_of, seat_with, seat_of_open, new_open, with_job, open_planned, open_begun, goes_on_open, open_rested};
-ghost use Rattle.farm_rounds.specs.Opens.{same_seat};
+ghost use Rattle.farm_rounds.specs.Opens.{IsOpenCall, kept_of, portion_with, portion_of_open, new_open, with_job, open_planned, open_begun, goes_on_open, open_rested};
+ghost use Rattle.farm_rounds.specs.Opens.{same_portion};
 ghost use Rattle.farm_rounds.specs.Opened.{HasBuffers};
 
 use crate::live::contains;
@@ -26,7 +24,6 @@ use call_pair::{CallJob, LegIo};
 use pool_run::Work;
 use round_lines::{CallLines, Outlet};
 use std::alloc::{AllocError, Global};
-use switchboard::Act;
 use trau_alaw::Law;
 use trau_io::Trunk;
 
@@ -84,7 +81,7 @@ fn has_failed(outlet: Outlet) -> bool
 fn fill_io<T: Trunk>(trunk: &mut T, lines: &mut CallLines, io: &mut LegIo)
     requires { Fits lines.old.periods io.old.up io.old.pcm io.old.down io.old.out }
     ensures fills { Fills (T.lines trunk.old lines.old.call) (T.lines trunk.new lines.old.call)
-        (seat_with lines.old io.old) (seat_with lines.new io.new) }
+        (portion_with lines.old io.old) (portion_with lines.new io.new) }
     ensures others { KeepsBut IsIncoming (T.lines trunk.old) (T.lines trunk.new) lines.old.call }
     ensures kept { io.new ≡ record io.old { up = io.new.up; pcm = io.new.pcm } }
 {
@@ -95,17 +92,10 @@ fn fill_io<T: Trunk>(trunk: &mut T, lines: &mut CallLines, io: &mut LegIo)
 fn drain_io<T: Trunk>(trunk: &mut T, lines: &mut CallLines, io: &LegIo)
     requires { Fits lines.old.periods io.now.up io.now.pcm io.now.down io.now.out }
     ensures drains { Drains (T.lines trunk.old lines.old.call) (T.lines trunk.new lines.old.call)
-        (seat_with lines.old io.now) (seat_with lines.new io.now) }
+        (portion_with lines.old io.now) (portion_with lines.new io.now) }
     ensures others { KeepsBut IsOutgoing (T.lines trunk.old) (T.lines trunk.new) lines.old.call }
 {
     lines.drain(trunk, &io.down, &io.out);
-}
-
-// For the prover only: reading the field brings in the type's invariant.
-fn io_fits(io: &LegIo)
-    ensures { IsIo io.now }
-{
-    let _given = io.given;
 }
 
 impl OpenCall {
@@ -150,20 +140,6 @@ impl OpenCall {
         self.partner = None;
     }
 
-    /// Sets its level or its DTX mode, whichever the act names. Any other act changes nothing; `IsInRange` doesn't exclude it.
-    pub(crate) fn set(&mut self, act: &Act)
-        requires { IsInRange act.now }
-        ensures call { (kept_of self.new).call ≡ set_by act.now (kept_of self.old).call }
-        ensures partner { self.new.partner ≡ self.old.partner }
-        ensures kept { (most : ℕ) → IsOpenCall most self.old → IsOpenCall most self.new }
-    {
-        match act {
-            Act::LevelSet { level, .. } => self.job.set_level(*level),
-            Act::DtxSet { mode, .. } => self.job.set_dtx(*mode),
-            _ => {}
-        }
-    }
-
     /// Its tally so far.
     pub(crate) fn tally(&self) -> Tally
         ensures { (who : Who) (ts : List CallPeriod) (now : Settings) →
@@ -197,11 +173,11 @@ impl OpenCall {
     pub(crate) fn fill<T: Trunk>(&mut self, trunk: &mut T)
         requires { HasBuffers self.old }
         ensures fills { Fills (T.lines trunk.old self.old.lines.call)
-            (T.lines trunk.new self.old.lines.call) (seat_of_open self.old)
-            (seat_of_open self.new) }
+            (T.lines trunk.new self.old.lines.call) (portion_of_open self.old)
+            (portion_of_open self.new) }
         ensures others { KeepsBut IsIncoming (T.lines trunk.old) (T.lines trunk.new)
             self.old.lines.call }
-        ensures kept { same_seat self.new ≡ same_seat self.old }
+        ensures kept { same_portion self.new ≡ same_portion self.old }
     {
         fill_io(trunk, &mut self.lines, &mut self.job.io);
     }
@@ -249,8 +225,8 @@ impl OpenCall {
     /// The octets that go out on Down and on Out: 40 and 160 for each whole period.
     pub(crate) fn outgoing(&self) -> (&[u8], &[u8])
         requires { HasBuffers self.now }
-        ensures down { result.0.now ≡ down_given (seat_of_open self.now) }
-        ensures out { result.1.now ≡ out_given (seat_of_open self.now) }
+        ensures down { result.0.now ≡ down_given (portion_of_open self.now) }
+        ensures out { result.1.now ≡ out_given (portion_of_open self.now) }
     {
         let whole = self.lines.whole() as usize;
         let io = &self.job.io;
@@ -261,8 +237,8 @@ impl OpenCall {
     pub(crate) fn drain<T: Trunk>(&mut self, trunk: &mut T)
         requires { HasBuffers self.old }
         ensures drains { Drains (T.lines trunk.old self.old.lines.call)
-            (T.lines trunk.new self.old.lines.call) (seat_of_open self.old)
-            (seat_of_open self.new) }
+            (T.lines trunk.new self.old.lines.call) (portion_of_open self.old)
+            (portion_of_open self.new) }
         ensures others { KeepsBut IsOutgoing (T.lines trunk.old) (T.lines trunk.new)
             self.old.lines.call }
         ensures job { self.new.job ≡ self.old.job }
@@ -272,15 +248,6 @@ impl OpenCall {
     }
 
     // ---- after a round
-
-    /// For the prover only: reading the fields brings in the invariants of their types.
-    pub(crate) fn octets_fit(&self)
-        ensures io { IsIo self.now.job.io }
-        ensures came { whole_in self.now.lines ≤ self.now.lines.periods }
-    {
-        io_fits(&self.job.io);
-        let _whole = self.lines.whole();
-    }
 
     /// Whether its lines gave all periods of the round.
     pub(crate) fn goes_on(&self) -> bool

@@ -3,9 +3,9 @@
 ghost use Rattle.std.specs.Prelude.{◌≡◌, ℕ, ◌+◌, ◌^◌, ◌%◌, IfOk};
 ghost use Rattle.std.specs.List.{sum};
 ghost use Rattle.trau_io.specs.declared.line.Side.{Side};
-ghost use Rattle.farm_rounds.specs.Opens.{seat_of_open};
+ghost use Rattle.farm_rounds.specs.Opens.{portion_of_open};
 ghost use Rattle.farm_rounds.specs.Opened.{HasBuffers};
-ghost use Rattle.farm_rounds.specs.Sums.{AddsSeat, no_sums, sum_in};
+ghost use Rattle.farm_rounds.specs.Sums.{AddsPortion, no_sums, sum_in};
 
 use crate::open::OpenCall;
 use farm_report::sum;
@@ -61,7 +61,7 @@ impl Sums {
     /// Adds the octets that a call gives to its outgoing lines in a round to the sums of these lines.
     pub(crate) fn add_call(&mut self, call: &OpenCall)
         requires { HasBuffers call.now }
-        ensures { AddsSeat (seat_of_open call.now) (sum_in self.old) (sum_in self.new) }
+        ensures { AddsPortion (portion_of_open call.now) (sum_in self.old) (sum_in self.new) }
     {
         let (down, out) = call.outgoing();
         self.add(call.lines.line(Side::Down), down);

@@ -1,7 +1,7 @@
 //! A round after its calls are processed.
 
 ghost use Rattle.std.specs.Prelude.{◌≡◌, List, length};
-ghost use Rattle.round_lines.specs.Seats.{SeatMemory, Drains};
+ghost use Rattle.round_lines.specs.Portions.{PortionMemory, Drains};
 ghost use Rattle.round_lines.specs.Rounds.{Each, KeepsButEach, IsOutgoing};
 ghost use Rattle.farm_rounds.specs.Sums.{Adds, sum_in};
 ghost use Rattle.farm_rounds.specs.Working.{GainsFailed};
@@ -23,7 +23,7 @@ pub struct Worked {
 impl Model for Worked {
     ghost use Rattle.std.specs.Prelude.{◌≡◌, ◌+◌, ◌*◌, ◌≤◌, length, vec_capacity};
     ghost use Rattle.call_number.specs.declared.TheConstants.{NUMBERS};
-    ghost use Rattle.farm_rounds.specs.Opens.{opens_in, farm_of, seats_of};
+    ghost use Rattle.farm_rounds.specs.Opens.{opens_in, farm_of, portions_of};
     ghost use Rattle.farm_rounds.specs.Working.{WorkedMemory, IsWorkedRound};
     ghost use Rattle.farm_rounds.specs.Failed.{AreFailedBefore};
 
@@ -31,7 +31,7 @@ impl Model for Worked {
 
     ghost view = { λ r. record {
       farm = farm_of r.calls;
-      seats = seats_of r.calls.open.items;
+      portions = portions_of r.calls.open.items;
       ends = r.ends.items;
     } };
 
@@ -55,13 +55,13 @@ impl Worked {
     pub fn drain<T: Trunk>(mut self, trunk: &mut T) -> Farm
         // Each outgoing line that hasn't failed is given the octets of the whole periods. The farm lists the lines that
         // failed, and each open call knows which of its outgoing lines have.
-        ensures drains { (seats : List SeatMemory)
-            × Each Drains (T.lines trunk.old) (T.lines trunk.new) self.seats seats
-            (length self.seats)
-            × GainsFailed self.farm.failed result.failed seats
-            × KnowFailed seats result.calls × (length seats ≡ length self.seats) }
-        ensures others { KeepsButEach IsOutgoing (T.lines trunk.old) (T.lines trunk.new) self.seats
-            (length self.seats) }
+        ensures drains { (portions : List PortionMemory)
+            × Each Drains (T.lines trunk.old) (T.lines trunk.new) self.portions portions
+            (length self.portions)
+            × GainsFailed self.farm.failed result.failed portions
+            × KnowFailed portions result.calls × (length portions ≡ length self.portions) }
+        ensures others { KeepsButEach IsOutgoing (T.lines trunk.old) (T.lines trunk.new) self.portions
+            (length self.portions) }
         ensures passed { IsPassed self result }
     {
         drain_all(trunk, &mut self.calls.open);
@@ -70,7 +70,7 @@ impl Worked {
 
     /// Adds to the sum of each outgoing line what `drain` would write to the line, whether it has failed or not.
     pub fn add(&self, sums: &mut Sums)
-        ensures { Adds self.now.seats (sum_in sums.old) (sum_in sums.new) }
+        ensures { Adds self.now.portions (sum_in sums.old) (sum_in sums.new) }
     {
         for call in &self.calls.open {
             sums.add_call(call);
@@ -80,8 +80,8 @@ impl Worked {
     /// Returns the farm after the round, as `drain` does, but writes no line.
     pub fn pass(self) -> Farm
         // The farm lists the lines that failed, and each open call knows which of its outgoing lines have.
-        ensures gains { GainsFailed self.farm.failed result.failed self.seats
-            × KnowFailed self.seats result.calls }
+        ensures gains { GainsFailed self.farm.failed result.failed self.portions
+            × KnowFailed self.portions result.calls }
 
         // The open calls, their partners and histories, and the kept tallies are as after `drain`.
         ensures passed { IsPassed self result }

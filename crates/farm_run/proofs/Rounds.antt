@@ -1,4 +1,5 @@
--- A round of periods, by the definition of the run: what is taken, what each call has had behind it, and which calls end.
+-- A round of periods, by the definition of the run: what is taken, what each call has had behind it, and which calls
+-- end.
 pub mod Taken
 pub mod Outcome
 pub mod Histories

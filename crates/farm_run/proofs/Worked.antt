@@ -3,7 +3,7 @@ pub mod Round
 pub mod Facts
 pub mod Making
 pub mod Settled
-mod Seats
+mod Portions
 mod Calls
 mod Past
 pub mod Tallies

@@ -1,4 +1,5 @@
--- What holds at the clock t of a run (this project's profile). `before` are the lines before the run, `now` those at the clock.
+-- What holds at the clock t of a run (this project's profile). `before` are the lines before the run, `now` those at
+-- the clock.
 use Rattle.std.specs.Prelude.{◌≡◌, ◌≤◌, ◌*◌, ℕ, Bool, List, drop}
 use Rattle.trau_io.specs.declared.line.Side.{Side}
 use Rattle.trau_io.specs.declared.line.Side.TheVariants.{Up, Pcm, Down, Out}
@@ -14,8 +15,8 @@ use Rattle.farm_run.specs.Standing.{Standing, IsToCome, never_given}
 -- What the lines of the run's calls have given at the clock. `last` is the state of the run at its end.
 pub record LinesAt (r : Run) (t : ℕ) (last : Standing)
     (before now : ℕ → Side → LineState) : Type 0 where
-  -- an incoming line has given the octets of its call's periods before the clock; still to come are the run's other octets,
-  -- followed by those that the line never gives
+  -- an incoming line has given the octets of its call's periods before the clock; still to come are the run's other
+  -- octets, followed by those that the line never gives
   pub up_read : (c : ℕ) → IsOpened r c → IsReadWhole r t c →
       IsToCome (now c Up) (40 * worked_to r t c) (r.lines c).up
       (never_given (last.listed c Up) (last.lines c Up))
@@ -25,8 +26,8 @@ pub record LinesAt (r : Run) (t : ℕ) (last : Standing)
   -- the lines of calls that the run doesn't open are unchanged
   pub others : (c : ℕ) (s : Side) → (IsOpened r c → ⊥) → now c s ≡ before c s
 
--- What the outgoing lines of the run's calls have gained at the clock t: the octets of their periods from period `from` of the
--- run on and before t. The lines that are listed as failed have gained a proper prefix of them.
+-- What the outgoing lines of the run's calls have gained at the clock t: the octets of their periods from period `from`
+-- of the run on and before t. The lines that are listed as failed have gained a proper prefix of them.
 pub record WrittenFrom (r : Run) (from t : ℕ) (listed : ℕ → Side → Bool)
     (before now : ℕ → Side → LineState) : Type 0 where
   pub out : (c : ℕ) → IsOpened r c → HasWritten (listed c Out) (before c Out) (now c Out)

@@ -14,14 +14,15 @@ use Rattle.farm_rounds.specs.Memory.{FarmMemory, tally_in}
 use Rattle.farm_rounds.specs.Histories.{CallHistory, CallsStand, kept_of}
 use Rattle.farm_run.specs.declared.notes.SentBefore.{SentBefore}
 
--- what a call has sent in its latest bridge before these ones: the note of the first of them that is its own, or what it has sent so far
+-- what a call has sent in its latest bridge before these ones: the note of the first of them that is its own, or what
+-- it has sent so far
 abbrev pub sent_until : (ℕ → ℕ) → List Span → List SentBefore → ℕ → ℕ
 sent_until sent (x ∷ xs) (n ∷ ns) c =
     if c == x.a then n.by_a else if c == x.b then n.by_b else sent_until sent xs ns c
 sent_until sent _ _ c = sent c
 
--- The report's line of a bridge in which its calls have sent so many frames: each sends the other's frames, and for each period of the
--- bridge without a sent frame, a frame is lost.
+-- The report's line of a bridge in which its calls have sent so many frames: each sends the other's frames, and for
+-- each period of the bridge without a sent frame, a frame is lost.
 abbrev pub span_line : Span → ℕ → ℕ → SpanLine
 span_line s by_a by_b =
     let periods = s.to - s.from in
@@ -53,7 +54,8 @@ call_line b kept c =
     option_map (λ e. record { end = e; from = start_of b.done c; counts = (kept c).counts })
     (end_so_far b c)
 
--- The report of a run of so many orders, from board, farm and notes, after the end of each call was reported to the board.
+-- The report of a run of so many orders, from board, farm and notes, after the end of each call was reported to the
+-- board.
 pub record Reports (b : State) (farm : FarmMemory) (notes : List SentBefore) (orders : ℕ)
     (report : ReportView) : Type 0 where
   pub replies : report.replies ≡ replies_from 0 b.done

@@ -28,8 +28,8 @@ abbrev pub AreNumbers : Act → Type 0
 AreNumbers (act.Bridged a b) = IsCallNumber a × IsCallNumber b
 AreNumbers _ = Unit {0}
 
--- At the clock t, no remaining order has a smaller stamp, no executed order has a greater one, and all ends that the board knows
--- are before the clock.
+-- At the clock t, no remaining order has a smaller stamp, no executed order has a greater one, and all ends that the
+-- board knows are before the clock.
 pub record AtClock (t : ℕ) (b : State) (calls : List Kept) : Type 0 where
   pub orders : AreOrders (orders_of b)
   pub ahead : IfSome (first_stamp b.left) (λ s. t ≤ s)

@@ -1,5 +1,5 @@
--- What is noted so far for the report of a run (this project's profile). `ds` are the orders that were executed, the oldest
--- first.
+-- What is noted so far for the report of a run (this project's profile). `ds` are the orders that were executed, the
+-- oldest first.
 use Rattle.std.specs.Prelude.{◌≡◌, ℕ, ◌==◌, if◌then◌else◌, ◌≤◌, true, Bool, Some, is_some, IfSome, List, [], ◌∷◌, ◌++◌, slice_index_or}
 use Rattle.trau_io.specs.declared.ends.CallEnd.{CallEnd}
 use Rattle.switchboard.specs.declared.act.Act.{Act}
@@ -44,8 +44,8 @@ sent_in_bridge r k c = sent_by r (span_numbered r k) c
 
 -- ---- what is noted of it
 
--- What is noted of an accepted order. `sent` is how many frames each call has sent in its latest bridge so far. When two calls
--- are bridged, this number is final for their bridges before.
+-- What is noted of an accepted order. `sent` is how many frames each call has sent in its latest bridge so far. When
+-- two calls are bridged, this number is final for their bridges before.
 abbrev pub noted_by : Act → (ℕ → ℕ) → List SentBefore → List SentBefore
 noted_by (act.Bridged a b) sent notes = notes ++ record { by_a = sent a; by_b = sent b } ∷ []
 noted_by _ sent notes = notes
@@ -54,8 +54,8 @@ noted_by _ sent notes = notes
 abbrev pub sent_before : ℕ → Bridge → SentBefore → ℕ
 sent_before c x n = if c == x.a then n.by_a else n.by_b
 
--- The notes of these bridges, which came behind those in `front`: each tells what each of its calls has sent in its latest bridge before
--- it. `sent_in` says what a call sends in the bridge at an index.
+-- The notes of these bridges, which came behind those in `front`: each tells what each of its calls has sent in its
+-- latest bridge before it. `sent_in` says what a call sends in the bridge at an index.
 abbrev pub AreNotes : (ℕ → ℕ → ℕ) → List Bridge → List Bridge → List SentBefore → Type 0
 AreNotes sent_in front (x ∷ xs) (n ∷ ns) =
     ((c k : ℕ) → joins c x ≡ true → IsLatest front c (Some k) → sent_before c x n ≡ sent_in k c)
@@ -93,8 +93,8 @@ pub record IsKnown (r : Run) (t : ℕ) (b : State) (tallies : List Tally)
   pub truly : TellsTruly r b
   pub noted : IsNotedAt r b.done t notes tallies
 
--- A run that has come to its end at the clock t: no order before the run's end remains, and if a call is open, t is the run's
--- end. The board, the farm and the notes are right.
+-- A run that has come to its end at the clock t: no order before the run's end remains, and if a call is open, t is the
+-- run's end. The board, the farm and the notes are right.
 pub record IsAtEnd (r : Run) (t : ℕ) (b : State) (calls : List Kept) (tallies : List Tally)
     (notes : List SentBefore) : Type 0 where
   pub follows : FollowsRun r t b calls

@@ -1,5 +1,5 @@
--- The parts of a run: from its start to a period, from there to its end, and from a mark on (this project's profile). `before`
--- are the lines before a part, `now` those after it.
+-- The parts of a run: from its start to a period, from there to its end, and from a mark on (this project's profile).
+-- `before` are the lines before a part, `now` those after it.
 use Rattle.std.specs.Prelude.{◌≡◌, ◌⊎◌, ◌≤◌, ℕ, max, true, is_some, Option, Some, None, List, length, map}
 use Rattle.trau_io.specs.declared.line.Side.{Side}
 use Rattle.trau_io.specs.Lines.{LineState}
@@ -69,7 +69,8 @@ pub record IsKeptOf (last : Stage) (clock : ℕ) (saved : SavedView) : Type 0 wh
 
 -- ---- from a mark on
 
--- How a mark differs from a run that has come to its period: by the least call number whose entries differ, or not at all.
+-- How a mark differs from a run that has come to its period: by the least call number whose entries differ, or not at
+-- all.
 pub record Compares (mark : MarkView) (u : Stage) (found : Option ℕ) : Type 0 where
   pub none : found ≡ None → mark.calls ≡ map (entry_of u) u.farm.live
   pub some : (call : ℕ) → found ≡ Some call →
@@ -78,7 +79,8 @@ pub record Compares (mark : MarkView) (u : Stage) (found : Option ℕ) : Type 0 
   pub live : (c : ℕ) → is_among u.farm.live c ≡ is_some (call_in u.farm.calls c)
   pub rising : IsRising u.farm.live
 
--- The run of these orders has come to the stage u. All octets that it gave were summed and held back. `first` are the lines before it.
+-- The run of these orders has come to the stage u. All octets that it gave were summed and held back. `first` are the
+-- lines before it.
 pub record HeldTo (orders : List Order) (batch : ℕ) (first now : ℕ → Side → LineState)
     (u : Stage) : Type 0 where
   pub outgoing : Outgoing

@@ -1,6 +1,6 @@
--- What a resumed run leaves and reports, whatever fails (this project's profile). It processes the same recordings from the
--- start, holds back the octets of the periods before the mark's, and compares the mark there. `before` are the lines before it,
--- `now` those after it.
+-- What a resumed run leaves and reports, whatever fails (this project's profile). It processes the same recordings from
+-- the start, holds back the octets of the periods before the mark's, and compares the mark there. `before` are the
+-- lines before it, `now` those after it.
 use Rattle.std.specs.Prelude.{◌≡◌, ◌≢◌, ◌<◌, ◌≤◌, ℕ, ◌*◌, max, Bool, true, false, List, length, take, drop}
 use Rattle.trau_io.specs.declared.line.Line.{Line}
 use Rattle.trau_io.specs.declared.line.Side.{Side}
@@ -59,24 +59,26 @@ pub record ResumesRun (orders : List Order) (pace : Pace) (mark : MarkView)
   -- the run to the mark's period has the mark's calls
   pub same_mark : (r : Run) → IsRunOver orders mark.period (is_listed report.failed) before now r →
       marked_calls r ≡ mark.calls
-  -- each line that failed is one of a call that the run opened; an incoming one gave fewer octets than its call takes up to some
-  -- period, at most a batch after the call's end
+  -- each line that failed is one of a call that the run opened; an incoming one gave fewer octets than its call takes
+  -- up to some period, at most a batch after the call's end
   pub opened : (r : Run) →
       IsRunOver orders (max mark.period pace.periods) (is_listed report.failed) before now r →
       OnlyOpenedFail r (is_listed report.failed)
   pub short : (r : Run) →
       IsRunOver orders (max mark.period pace.periods) (is_listed report.failed) before now r →
       FailedShort r pace.batch (is_listed report.failed)
-  -- of a call that its lines ended, exactly the octets up to such a period were read of its incoming lines that didn't fail
+  -- of a call that its lines ended, exactly the octets up to such a period were read of its incoming lines that didn't
+  -- fail
   pub read_past : (r : Run) →
       IsRunOver orders (max mark.period pace.periods) (is_listed report.failed) before now r →
       ReadToEnd r pace.batch (is_listed report.failed) now
-  -- if the orders are in range and the contents of the incoming lines are known, such runs exist, up to any number of periods
+  -- if the orders are in range and the contents of the incoming lines are known, such runs exist, up to any number of
+  -- periods
   pub there : AreOrders orders → AreTold before → (periods : ℕ) →
       (r : Run) × IsRunOver orders periods (is_listed report.failed) before now r
 
--- A resumed run whose mark isn't that of these lines and orders. It wrote nothing. At the mark's period, `call` is the least call
--- number whose entries differ in the run and in the mark, or that only one of the two has.
+-- A resumed run whose mark isn't that of these lines and orders. It wrote nothing. At the mark's period, `call` is the
+-- least call number whose entries differ in the run and in the mark, or that only one of the two has.
 pub record FindsDifference (orders : List Order) (pace : Pace) (mark : MarkView)
     (before now : ℕ → Side → LineState) (call : ℕ) : Type 0 where
   -- the lines that failed
@@ -99,13 +101,14 @@ pub record FindsDifference (orders : List Order) (pace : Pace) (mark : MarkView)
   -- the lines of calls that it doesn't open are unchanged
   pub others : (r : Run) → IsRunOver orders mark.period (is_listed failed) before now r →
       (c : ℕ) (s : Side) → (IsOpened r c → ⊥) → now c s ≡ before c s
-  -- each line that failed is one of a call that the run opened; an incoming one gave fewer octets than its call takes up to some
-  -- period, at most a batch after the call's end
+  -- each line that failed is one of a call that the run opened; an incoming one gave fewer octets than its call takes
+  -- up to some period, at most a batch after the call's end
   pub opened : (r : Run) → IsRunOver orders mark.period (is_listed failed) before now r →
       OnlyOpenedFail r (is_listed failed)
   pub short : (r : Run) → IsRunOver orders mark.period (is_listed failed) before now r →
       FailedShort r pace.batch (is_listed failed)
-  -- of a call that its lines ended, exactly the octets up to such a period were read of its incoming lines that didn't fail
+  -- of a call that its lines ended, exactly the octets up to such a period were read of its incoming lines that didn't
+  -- fail
   pub read_past : (r : Run) → IsRunOver orders mark.period (is_listed failed) before now r →
       ReadToEnd r pace.batch (is_listed failed) now
   -- if the orders are in range and the contents of the incoming lines are known, such a run exists
@@ -120,11 +123,12 @@ Resumes orders pace mark before now (Ran report) =
 Resumes orders pace mark before now (Differs call) =
     FindsDifference orders pace mark before now call
 
--- What a run leaves on the lines if it stops before its end, and the outgoing octets of the periods before `from` are held back.
+-- What a run leaves on the lines if it stops before its end, and the outgoing octets of the periods before `from` are
+-- held back.
 pub record LeavesFrontsFrom (r : Run) (from : ℕ) (fails : ℕ → Side → Bool)
     (before now : ℕ → Side → LineState) : Type 0 where
-  -- the outgoing lines of each call that it opens have gained a prefix of what the run gives them from there on; those that failed,
-  -- a proper prefix
+  -- the outgoing lines of each call that it opens have gained a prefix of what the run gives them from there on; those
+  -- that failed, a proper prefix
   pub out : (c : ℕ) → IsOpened r c →
       HasFront (fails c Out) (before c Out) (now c Out)
       (drop (160 * worked_to r from c) (out_of_call r c))
@@ -134,16 +138,18 @@ pub record LeavesFrontsFrom (r : Run) (from : ℕ) (fails : ℕ → Side → Boo
   -- the lines of all other calls are unchanged, their counts included
   pub others : (c : ℕ) (s : Side) → (IsOpened r c → ⊥) → now c s ≡ before c s
 
--- What a run leaves on the lines if it stops at its period t, and the outgoing octets of the periods before `from` are held back.
+-- What a run leaves on the lines if it stops at its period t, and the outgoing octets of the periods before `from` are
+-- held back.
 pub record StopsFrom (r : Run) (from t : ℕ) (fails : ℕ → Side → Bool)
     (before now : ℕ → Side → LineState) : Type 0 where
-  -- the outgoing lines of each call that it opens have gained the octets of its periods from `from` on and before t, none if t comes
-  -- first; those that failed, a proper prefix of them
+  -- the outgoing lines of each call that it opens have gained the octets of its periods from `from` on and before t,
+  -- none if t comes first; those that failed, a proper prefix of them
   pub out : (c : ℕ) → IsOpened r c → HasWritten (fails c Out) (before c Out) (now c Out)
       (drop (160 * worked_to r from c) (take (160 * worked_to r t c) (out_of_call r c)))
   pub down : (c : ℕ) → IsOpened r c → HasWritten (fails c Down) (before c Down) (now c Down)
       (drop (40 * worked_to r from c) (take (40 * worked_to r t c) (down_of_call r c)))
-  -- unless the call ended before t because of its lines, exactly the octets of its periods before t were read of its incoming lines
+  -- unless the call ended before t because of its lines, exactly the octets of its periods before t were read of its
+  -- incoming lines
   pub up_read : (c : ℕ) → IsOpened r c → fails c Up ≡ false → IsReadWhole r t c →
       IsReadTo (now c Up) (40 * worked_to r t c) (r.lines c).up
   pub pcm_read : (c : ℕ) → IsOpened r c → fails c Pcm ≡ false → IsReadWhole r t c →
@@ -152,8 +158,8 @@ pub record StopsFrom (r : Run) (from t : ℕ) (fails : ℕ → Side → Bool)
   pub over : (c : ℕ) (s : Side) → IsIncoming s → fails c s ≡ true →
       (end_in r c < t) × (IsCutOff (cause_in r c) → ⊥)
 
--- A resumed run of these orders, in rounds of at most `batch` periods, that ran out of memory. There is no report, so `fails` says which
--- lines failed.
+-- A resumed run of these orders, in rounds of at most `batch` periods, that ran out of memory. There is no report, so
+-- `fails` says which lines failed.
 pub record IsResumeCutShort (orders : List Order) (batch periods : ℕ) (mark : MarkView)
     (before now : ℕ → Side → LineState) : Type 0 where
   -- the lines that failed
@@ -162,8 +168,8 @@ pub record IsResumeCutShort (orders : List Order) (batch periods : ℕ) (mark : 
   -- incoming lines were only read, from the start, and outgoing lines only written
   pub sides : KeepsSides before now
   pub reads : ReadsOn before now
-  -- each outgoing line has gained a prefix of what the whole run, over what the lines gave, gives it from the mark's period on; a
-  -- line that failed, a proper prefix. Except for `others`, that follows from `stops`.
+  -- each outgoing line has gained a prefix of what the whole run, over what the lines gave, gives it from the mark's
+  -- period on; a line that failed, a proper prefix. Except for `others`, that follows from `stops`.
   pub fronts : (r : Run) → IsRunOver orders periods fails before now r →
       LeavesFrontsFrom r mark.period fails before now
   -- it stopped at one period, the same for all lines
@@ -171,17 +177,19 @@ pub record IsResumeCutShort (orders : List Order) (batch periods : ℕ) (mark : 
   pub within : clock ≤ periods
   pub stops : (r : Run) → IsRunOver orders periods fails before now r →
       StopsFrom r mark.period clock fails before now
-  -- each line that failed is one of a call that the run opens; an incoming one gave fewer octets than its call takes up to some
-  -- period, at most a batch after the call's end and not after `clock`
+  -- each line that failed is one of a call that the run opens; an incoming one gave fewer octets than its call takes up
+  -- to some period, at most a batch after the call's end and not after `clock`
   pub opened : (r : Run) → IsRunOver orders periods fails before now r → OnlyOpenedFail r fails
   pub short : (r : Run) → IsRunOver orders periods fails before now r → FailedBy r batch clock fails
-  -- of a call that its lines ended before `clock`, exactly the octets up to such a period were read of its incoming lines that didn't fail
+  -- of a call that its lines ended before `clock`, exactly the octets up to such a period were read of its incoming
+  -- lines that didn't fail
   pub read_past : (r : Run) → IsRunOver orders periods fails before now r →
       ReadBy r batch clock fails now
   -- if the run up to the mark's period hasn't the mark's calls, each outgoing line is unchanged, its counts included
   pub held : (r : Run) → IsRunOver orders mark.period fails before now r →
       marked_calls r ≢ mark.calls →
       (c : ℕ) (s : Side) → IsOutgoing s → now c s ≡ before c s
-  -- if the orders are in range and the contents of the incoming lines are known, such runs exist, up to any number of periods
+  -- if the orders are in range and the contents of the incoming lines are known, such runs exist, up to any number of
+  -- periods
   pub there : AreOrders orders → AreTold before → (n : ℕ) →
       (r : Run) × IsRunOver orders n fails before now r

@@ -1,5 +1,5 @@
--- What a run leaves on the lines of its calls, and what it reports, whatever fails (this project's profile). `before` are
--- the lines before it, `now` those after it.
+-- What a run leaves on the lines of its calls, and what it reports, whatever fails (this project's profile). `before`
+-- are the lines before it, `now` those after it.
 use Rattle.std.specs.Prelude.{◌≡◌, ◌⊎◌, ◌<◌, ◌≤◌, ℕ, ◌+◌, ◌-◌, ◌*◌, Bool, true, false, Some, List, ◌++◌, length, map, drop}
 use Rattle.std.specs.List.Sorted.{IsStrictlyIncreasing}
 use Rattle.trau_io.specs.declared.line.Line.{Line}
@@ -20,7 +20,8 @@ use Rattle.run_spec.specs.Facts.{report_of}
 use Rattle.farm_run.specs.declared.pace.Pace.{Pace}
 -- `is_listed lines c s`: whether `lines` has the line of call c on side s
 pub use Rattle.farm_rounds.specs.Failed.{is_listed}
--- `HasWritten failed before now octets`: an outgoing line has gained all these octets; if it failed, a proper prefix of them
+-- `HasWritten failed before now octets`: an outgoing line has gained all these octets; if it failed, a proper prefix of
+-- them
 pub use Rattle.round_lines.specs.Transfer.{HasWritten}
 
 -- ---- the lines that failed
@@ -63,8 +64,8 @@ AreTold lines = (c : ℕ) (s : Side) → IsCallNumber c → IsIncoming s →
 
 -- ---- the run of the definition; `fails` says which lines failed in it
 
--- The octets of an incoming line are its contents. If a read of it failed in the run, they are the octets that were read before:
--- a line that failed isn't read again, so the others are still to come.
+-- The octets of an incoming line are its contents. If a read of it failed in the run, they are the octets that were
+-- read before: a line that failed isn't read again, so the others are still to come.
 abbrev pub IsGiven : Bool → LineState → LineState → List ℕ → Type 0
 IsGiven false before now octets = before.to_come ≡ Some octets
 IsGiven true before now octets =
@@ -89,7 +90,8 @@ IsCutOff Limit = Unit {0}
 IsCutOff (End side left) = ⊥
 IsCutOff (Fault side) = ⊥
 
--- The call goes on up to period t, or its lines didn't end it. Then exactly the octets of its periods before t are read.
+-- The call goes on up to period t, or its lines didn't end it. Then exactly the octets of its periods before t are
+-- read.
 abbrev pub IsReadWhole : Run → ℕ → ℕ → Type 0
 IsReadWhole r t c = (t ≤ end_in r c) ⊎ IsCutOff (cause_in r c)
 
@@ -117,15 +119,16 @@ pub record Leaves (r : Run) (fails : ℕ → Side → Bool)
 abbrev pub OnlyOpenedFail : Run → (ℕ → Side → Bool) → Type 0
 OnlyOpenedFail r fails = (c : ℕ) (s : Side) → fails c s ≡ true → IsOpened r c
 
--- A line of a call that ended from period `from` of the run on and before `until`, because of its lines and not by an order. In
--- all, the line gave fewer octets than the call's periods before `until` take (`octets` each).
+-- A line of a call that ended from period `from` of the run on and before `until`, because of its lines and not by an
+-- order. In all, the line gave fewer octets than the call's periods before `until` take (`octets` each).
 pub record FailedIn (r : Run) (c octets : ℕ) (line : List ℕ) (from until : ℕ) : Type 0 where
   pub begun : from ≤ end_in r c
   pub over : end_in r c < until
   pub by_lines : IsCutOff (cause_in r c) → ⊥
   pub short : length line < octets * (until - start_in r c)
 
--- each incoming line that failed is such a line, for some `from` and `until`, at most `batch` periods apart and not after period t
+-- each incoming line that failed is such a line, for some `from` and `until`, at most `batch` periods apart and not
+-- after period t
 pub record FailedBy (r : Run) (batch t : ℕ) (fails : ℕ → Side → Bool) : Type 0 where
   pub up : (c : ℕ) → fails c Up ≡ true →
       (from : ℕ) × (until : ℕ) × (until ≤ from + batch) × (until ≤ t)
@@ -138,8 +141,8 @@ pub record FailedBy (r : Run) (batch t : ℕ) (fails : ℕ → Side → Bool) : 
 abbrev pub FailedShort : Run → ℕ → (ℕ → Side → Bool) → Type 0
 FailedShort r batch fails = FailedBy r batch r.periods fails
 
--- A call ended from period `from` of the run on and before `until`. Of its incoming lines that didn't fail exactly the octets of its
--- periods before `until` were read; of a line that has fewer, all.
+-- A call ended from period `from` of the run on and before `until`. Of its incoming lines that didn't fail exactly the
+-- octets of its periods before `until` were read; of a line that has fewer, all.
 pub record ReadIn (r : Run) (c : ℕ) (fails : ℕ → Side → Bool) (now : ℕ → Side → LineState)
     (from until : ℕ) : Type 0 where
   pub begun : from ≤ end_in r c
@@ -177,13 +180,14 @@ pub record Runs (orders : List Order) (pace : Pace) (before now : ℕ → Side �
       Leaves r (is_listed report.failed) before now
   pub reports : (r : Run) → IsRunOver orders pace.periods (is_listed report.failed) before now r →
       report ≡ report_of r report.failed
-  -- each line that failed is one of a call that the run opened; an incoming one gave fewer octets than its call takes up to some
-  -- period, at most a batch after the call's end
+  -- each line that failed is one of a call that the run opened; an incoming one gave fewer octets than its call takes
+  -- up to some period, at most a batch after the call's end
   pub opened : (r : Run) → IsRunOver orders pace.periods (is_listed report.failed) before now r →
       OnlyOpenedFail r (is_listed report.failed)
   pub short : (r : Run) → IsRunOver orders pace.periods (is_listed report.failed) before now r →
       FailedShort r pace.batch (is_listed report.failed)
-  -- of a call that its lines ended, exactly the octets up to such a period were read of its incoming lines that didn't fail
+  -- of a call that its lines ended, exactly the octets up to such a period were read of its incoming lines that didn't
+  -- fail
   pub read_past : (r : Run) → IsRunOver orders pace.periods (is_listed report.failed) before now r →
       ReadToEnd r pace.batch (is_listed report.failed) now
   -- if the orders are in range and the contents of the incoming lines are known, such a run exists

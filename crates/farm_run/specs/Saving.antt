@@ -1,5 +1,5 @@
--- What a run leaves on the lines, and its mark, if it is marked at its end, whatever fails (this project's profile). `before`
--- are the lines before it, `now` those after it.
+-- What a run leaves on the lines, and its mark, if it is marked at its end, whatever fails (this project's profile).
+-- `before` are the lines before it, `now` those after it.
 use Rattle.std.specs.Prelude.{◌≡◌, ℕ, List}
 use Rattle.trau_io.specs.declared.line.Line.{Line}
 use Rattle.trau_io.specs.declared.line.Side.{Side}
@@ -30,13 +30,14 @@ pub record Saves (orders : List Order) (pace : Pace) (before now : ℕ → Side 
       Leaves r (is_listed saved.failed) before now
   pub marks : (r : Run) → IsRunOver orders pace.periods (is_listed saved.failed) before now r →
       saved.mark ≡ mark_of r
-  -- each line that failed is one of a call that the run opened; an incoming one gave fewer octets than its call takes up to some
-  -- period, at most a batch after the call's end
+  -- each line that failed is one of a call that the run opened; an incoming one gave fewer octets than its call takes
+  -- up to some period, at most a batch after the call's end
   pub opened : (r : Run) → IsRunOver orders pace.periods (is_listed saved.failed) before now r →
       OnlyOpenedFail r (is_listed saved.failed)
   pub short : (r : Run) → IsRunOver orders pace.periods (is_listed saved.failed) before now r →
       FailedShort r pace.batch (is_listed saved.failed)
-  -- of a call that its lines ended, exactly the octets up to such a period were read of its incoming lines that didn't fail
+  -- of a call that its lines ended, exactly the octets up to such a period were read of its incoming lines that didn't
+  -- fail
   pub read_past : (r : Run) → IsRunOver orders pace.periods (is_listed saved.failed) before now r →
       ReadToEnd r pace.batch (is_listed saved.failed) now
   -- if the orders are in range and the contents of the incoming lines are known, such a run exists

@@ -67,8 +67,8 @@ pub record NoneUsedAgain (was is : ℕ → Side → Bool) (before now : ℕ → 
   pub lines : (c : ℕ) (s : Side) → was c s ≡ true → now c s ≡ before c s
   pub listed : (c : ℕ) (s : Side) → was c s ≡ true → is c s ≡ true
 
--- This holds of each run that was at the clock of s, and goes on from u to its end. `first` are the lines before the run, and
--- `last` is its state at its end.
+-- This holds of each run that was at the clock of s, and goes on from u to its end. `first` are the lines before the
+-- run, and `last` is its state at its end.
 abbrev pub InEachRun : Stage → Stage → (ℕ → Side → LineState) → (ℕ → Side → LineState) →
     (Run → (ℕ → Side → LineState) → Standing → Type 0) → Type 0
 InEachRun s u before now Holds =
@@ -83,7 +83,8 @@ pub record Reaches (batch : ℕ) (s u : Stage) (before now : ℕ → Side → Li
   pub kept : orders_of u.board ≡ orders_of s.board
   pub way : IsSameWay s.outgoing u.outgoing
   pub openings : (n : ℕ) → u.clock ≤ n → OpenedBefore n s.board.done → OpenedBefore n u.board.done
-  -- the farm still lists exactly the lines whose fault counts rose; incoming lines are only read, and outgoing lines only written
+  -- the farm still lists exactly the lines whose fault counts rose; incoming lines are only read, and outgoing lines
+  -- only written
   pub fell : NeverFell before now
   pub failed : (first : ℕ → Side → LineState) → NeverFell first before →
       TellsFailed first before s.farm.failed → TellsFailed first now u.farm.failed

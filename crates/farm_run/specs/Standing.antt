@@ -1,5 +1,5 @@
--- How a run goes on from one clock to a later one, whatever fails, and what an incoming line never gives in it (this project's
--- profile).
+-- How a run goes on from one clock to a later one, whatever fails, and what an incoming line never gives in it (this
+-- project's profile).
 use Rattle.std.specs.Prelude.{◌≡◌, ℕ, Bool, true, false, ◌||◌, Some, is_some, unwrap_or, List, [], ◌++◌, drop}
 use Rattle.trau_io.specs.declared.line.Line.{Line}
 use Rattle.trau_io.specs.declared.line.Side.{Side}
@@ -41,7 +41,8 @@ pub record StandingGoesOn (before now : Standing) : Type 0 where
   pub listed : (c : ℕ) (s : Side) → IsIncoming s → before.over c ≡ true →
       now.listed c s ≡ before.listed c s
 
--- What the board knows of the lines that are listed as failed. So an incoming line that failed isn't read in a later round.
+-- What the board knows of the lines that are listed as failed. So an incoming line that failed isn't read in a later
+-- round.
 pub record KnowsListed (b : State) (failed : List Line) : Type 0 where
   -- an order opened the line's call
   pub opened : (c : ℕ) (s : Side) → is_listed failed c s ≡ true → opened_now b c ≡ true
@@ -50,12 +51,14 @@ pub record KnowsListed (b : State) (failed : List Line) : Type 0 where
 
 -- ---- what a line gives
 
--- The octets that an incoming line never gives in a run: if it fails in the run, those that are still to come at the run's end.
+-- The octets that an incoming line never gives in a run: if it fails in the run, those that are still to come at the
+-- run's end.
 abbrev pub never_given : Bool → LineState → List ℕ
 never_given false last = []
 never_given true last = unwrap_or last.to_come []
 
--- The run's first k octets of a line were read: still to come are the run's others, followed by those that the line never gives.
+-- The run's first k octets of a line were read: still to come are the run's others, followed by those that the line
+-- never gives.
 abbrev pub IsToCome : LineState → ℕ → List ℕ → List ℕ → Type 0
 IsToCome now k line rest = now.to_come ≡ Some (drop k line ++ rest)
 

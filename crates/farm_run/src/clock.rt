@@ -19,7 +19,8 @@ use std::sync::Wait;
 use std::thread::Threads;
 use trau_io::Trunk;
 
-// The number of periods of the next round: a batch, or those up to the next order or to period `until` if they are fewer.
+// The number of periods of the next round: a batch, or those up to the next order or to period `until` if they are
+// fewer.
 fn round_periods(pace: &Pace, clock: u32, until: u32, next: Option<u32>) -> u32
     requires clock { clock < until }
     requires next { IfSome next (λ s. clock < s) }
@@ -32,8 +33,8 @@ fn round_periods(pace: &Pace, clock: u32, until: u32, next: Option<u32>) -> u32
     }
 }
 
-// Processes a round of `periods` periods of the open calls, of which there is one at least. It runs out of memory only before it
-// reads or writes a line.
+// Processes a round of `periods` periods of the open calls, of which there is one at least. It runs out of memory only
+// before it reads or writes a line.
 fn work_round<R: Threads + Wait + Sync, T: Trunk, G: Gate + Sync>(
     rt: &R,
     alloc: Global,
@@ -65,7 +66,7 @@ fn work_round<R: Threads + Wait + Sync, T: Trunk, G: Gate + Sync>(
         mut outgoing,
         clock,
     } = stage;
-    board.bridges_join_two();
+    switchboard::laws::bridges_join_two(&board);
     let mut round = Round::plan(alloc, farm, clock, periods, pace.workers)?;
     round.fill(trunk);
     let worked = round.work(rt, pace.slice, gate);
@@ -90,8 +91,8 @@ fn idle_until(until: u32, next: Option<u32>) -> u32
     }
 }
 
-// Executes the orders of the clock. Then processes a round, or goes to the next order or to `until` if no call is open. It runs
-// out of memory only before it reads or writes a line.
+// Executes the orders of the clock. Then processes a round, or goes to the next order or to `until` if no call is open.
+// It runs out of memory only before it reads or writes a line.
 fn step<R: Threads + Wait + Sync, T: Trunk, G: Gate + Sync>(
     rt: &R,
     alloc: Global,
@@ -105,8 +106,8 @@ fn step<R: Threads + Wait + Sync, T: Trunk, G: Gate + Sync>(
     requires stage { IsStage stage }
     requires before { stage.clock < until }
 
-    // It goes towards the next order or `until`, whichever comes first: all the way if it processed no round, and otherwise by a
-    // batch at most.
+    // It goes towards the next order or `until`, whichever comes first: all the way if it processed no round, and
+    // otherwise by a batch at most.
     ensures idle { IfOk result (λ after. after.farm.ended ≡ stage.farm.ended →
         after.clock ≡ min (unwrap_or (first_stamp after.board.left) until) until) }
     ensures round { IfOk result (λ after. after.farm.ended ≢ stage.farm.ended →

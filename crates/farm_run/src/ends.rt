@@ -10,8 +10,8 @@ ghost use Rattle.farm_run.specs.Ending.{AreOpen, AreApart, AreLate, partner_past
 use switchboard::Board;
 use trau_io::{CallEnd, Cause};
 
-/// Reports ends of calls to the board. The calls are open, no two ends are of one call, and no end is before the stamp of an
-/// executed order.
+/// Reports ends of calls to the board. The calls are open, no two ends are of one call, and no end is before the stamp
+/// of an executed order.
 pub(crate) fn tell_ends(board: &mut Board, ends: &[CallEnd])
     requires open { AreOpen board.old ends.now }
     requires apart { AreApart ends.now }
@@ -24,13 +24,14 @@ pub(crate) fn tell_ends(board: &mut Board, ends: &[CallEnd])
     ensures partner { (c : ℕ) →
         partner_now board.new c ≡ partner_past ends.now (partner_now board.old) c }
 {
-    board.bridges_join_two();
+    switchboard::laws::bridges_join_two(board);
     for end in ends {
         board.ended(*end);
     }
 }
 
-/// Ends these calls at `at`, the end of the run: reports the ends to the board. The calls are open, and their numbers rise.
+/// Ends these calls at `at`, the end of the run: reports the ends to the board. The calls are open, and their numbers
+/// rise.
 pub(crate) fn end_all(board: &mut Board, calls: &[u32], at: u32)
     requires rising { IsRising calls.now }
     requires open { All (λ c. open_now board.old c ≡ true) calls.now }

@@ -12,8 +12,8 @@ use crate::stage::Stage;
 use farm_report::Report;
 use std::alloc::{AllocError, Global};
 
-/// Ends the calls that are open at the end of a run of `orders` orders, and reports the run. `last` is the run at its last clock.
-/// An error says that memory ran out.
+/// Ends the calls that are open at the end of a run of `orders` orders, and reports the run. `last` is the run at its
+/// last clock. An error says that memory ran out.
 pub(crate) fn finish(alloc: Global, mut last: Stage, orders: usize) -> Result<Report, AllocError>
     requires few { orders ≤ 65536 }
     requires stage { IsStage last }

@@ -8,8 +8,9 @@ ghost use Rattle.trau_orders.specs.Lists.{AreOrders};
 ghost use Rattle.run_spec.specs.Run.{Run};
 ghost use Rattle.farm_run.specs.Runs.{AreTold, IsRunOver, ReadsOn};
 
-/// A run exists whichever lines are said to have failed, if the orders are in range, the contents of all calls' incoming lines
-/// are known, and these lines were only read from the start. So what a contract says of each such run says something.
+/// A run exists whichever lines are said to have failed, if the orders are in range, the contents of all calls'
+/// incoming lines are known, and these lines were only read from the start. So what a contract says of each such run
+/// says something.
 pub fn there_is_a_run()
     ensures { (orders : List Order) (periods : ℕ) (fails : ℕ → Side → Bool)
         (before now : ℕ → Side → LineState) →

@@ -6,7 +6,8 @@ use std::alloc::{AllocError, Global};
 use std::marker::Model;
 use trau_orders::MOST_LINES;
 
-/// How many handed frames the two calls of a bridge had sent in their bridges before it. Of a call's first bridge it says nothing.
+/// How many handed frames the two calls of a bridge had sent in their bridges before it. Of a call's first bridge it
+/// says nothing.
 #[derive(Clone, Copy)]
 pub(crate) struct SentBefore {
     pub(crate) by_a: u32,

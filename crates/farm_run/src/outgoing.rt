@@ -25,7 +25,7 @@ impl Outgoing {
     pub(crate) fn settle<T: Trunk>(&mut self, worked: Worked, trunk: &mut T) -> Farm
         ensures same { IsSameWay self.old self.new }
         ensures adds { is_summed self.old ≡ true →
-            Adds worked.seats (sum_to self.old) (sum_to self.new) }
+            Adds worked.portions (sum_to self.old) (sum_to self.new) }
         ensures settled { IsSettled (is_held self.old) (T.lines trunk.old) (T.lines trunk.new)
             worked result }
         ensures sides { KeepsSides (T.lines trunk.old) (T.lines trunk.new) }

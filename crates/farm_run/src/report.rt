@@ -14,8 +14,8 @@ use farm_rounds::Farm;
 use std::alloc::{AllocError, Global};
 use switchboard::{Board, Span};
 
-// The report's line of a bridge in which its calls have sent so many frames. A call hands over a frame in each period of the bridge.
-// The frames that its partner hasn't sent are lost.
+// The report's line of a bridge in which its calls have sent so many frames. A call hands over a frame in each period
+// of the bridge. The frames that its partner hasn't sent are lost.
 fn span_line(span: &Span, by_a: u32, by_b: u32) -> SpanLine
     ensures { result ≡ span_line span.now by_a by_b }
 {
@@ -43,8 +43,8 @@ fn sent_by_all(alloc: Global, farm: &Farm) -> Result<Vec<u32>, AllocError>
     Ok(sent)
 }
 
-// The report's lines of the bridges, from the last one back: what a call has sent in a bridge is noted of its next one, or it is what the
-// table says.
+// The report's lines of the bridges, from the last one back: what a call has sent in a bridge is noted of its next one,
+// or it is what the table says.
 fn span_lines(
     alloc: Global,
     spans: &[Span],
@@ -91,8 +91,8 @@ fn call_lines(alloc: Global, board: &Board, farm: &Farm) -> Result<Vec<CallLine>
     Ok(lines)
 }
 
-/// The report of a run of `orders` orders, of which the board has executed some, after the end of each call was reported to it. An error
-/// says that memory ran out.
+/// The report of a run of `orders` orders, of which the board has executed some, after the end of each call was
+/// reported to it. An error says that memory ran out.
 pub(crate) fn report(
     alloc: Global,
     board: &Board,

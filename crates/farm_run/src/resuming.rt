@@ -28,8 +28,8 @@ use trau_orders::Orders;
 pub enum Resumed {
     /// It came to its end.
     Ran(Report),
-    /// The mark isn't that of its lines and orders. The number is the least call number whose entry differs, or that only one of
-    /// the two has.
+    /// The mark isn't that of its lines and orders. The number is the least call number whose entry differs, or that
+    /// only one of the two has.
     Differs(u32),
 }
 
@@ -43,8 +43,8 @@ fn difference(alloc: Global, mark: &Mark, marked: &Stage) -> Result<Option<u32>,
     Ok(mark.differs(&calls))
 }
 
-// Compares the mark with a run of `count` orders that has come to its period and held back all octets. If the mark is the run's
-// own, goes on and writes all that follows.
+// Compares the mark with a run of `count` orders that has come to its period and held back all octets. If the mark is
+// the run's own, goes on and writes all that follows.
 fn go_on<R: Threads + Wait + Sync, T: Trunk, G: Gate + Sync>(
     rt: &R,
     alloc: Global,
@@ -76,10 +76,10 @@ fn go_on<R: Threads + Wait + Sync, T: Trunk, G: Gate + Sync>(
     Ok(Resumed::Ran(report))
 }
 
-/// Runs these orders over the lines of a trunk from the start, as `run` does, but holds back the octets of the periods before
-/// the mark's period. There it compares the mark. If the mark is the run's own, it writes all that follows, up to the mark's
-/// period or the number of periods asked for, whichever is greater. An error says that memory ran out. The run waits for its
-/// workers; that it returns isn't proved.
+/// Runs these orders over the lines of a trunk from the start, as `run` does, but holds back the octets of the periods
+/// before the mark's period. There it compares the mark. If the mark is the run's own, it writes all that follows, up
+/// to the mark's period or the number of periods asked for, whichever is greater. An error says that memory ran out.
+/// The run waits for its workers; that it returns isn't proved.
 pub fn resume<R: Threads + Wait + Sync, T: Trunk, G: Gate + Sync>(
     rt: &R,
     alloc: Global,
@@ -94,9 +94,9 @@ pub fn resume<R: Threads + Wait + Sync, T: Trunk, G: Gate + Sync>(
     ensures resumes { IfOk result (λ resumed. Resumes orders pace.now mark.now
         (T.lines trunk.old) (T.lines trunk.new) resumed) }
 
-    // If memory ran out, the run stopped at one period. Each outgoing line that didn't fail has gained exactly the octets of the
-    // periods from the mark's on and before that one; a line that failed, a proper prefix of them. If the mark isn't the run's, all
-    // outgoing lines are unchanged.
+    // If memory ran out, the run stopped at one period. Each outgoing line that didn't fail has gained exactly the
+    // octets of the periods from the mark's on and before that one; a line that failed, a proper prefix of them. If the
+    // mark isn't the run's, all outgoing lines are unchanged.
     ensures cut { OnErr result (IsResumeCutShort orders pace.now.batch
         (max mark.now.period pace.now.periods) mark.now (T.lines trunk.old) (T.lines trunk.new)) }
 

@@ -17,9 +17,9 @@ use std::thread::Threads;
 use trau_io::Trunk;
 use trau_orders::Orders;
 
-/// Runs these orders over the lines of a trunk, and reports the result. The workers of a pool, in threads of their own, process
-/// the calls in slices, and each slice passes the gate. An error says that memory ran out. The run waits for its workers; that
-/// it returns isn't proved.
+/// Runs these orders over the lines of a trunk, and reports the result. The workers of a pool, in threads of their own,
+/// process the calls in slices, and each slice passes the gate. An error says that memory ran out. The run waits for
+/// its workers; that it returns isn't proved.
 pub fn run<R: Threads + Wait + Sync, T: Trunk, G: Gate + Sync>(
     rt: &R,
     alloc: Global,
@@ -32,8 +32,8 @@ pub fn run<R: Threads + Wait + Sync, T: Trunk, G: Gate + Sync>(
     ensures runs { IfOk result (λ report. Runs orders pace.now
         (T.lines trunk.old) (T.lines trunk.new) report) }
 
-    // If memory ran out, the run stopped at one period. Each outgoing line that didn't fail has gained exactly the octets of the
-    // periods before it; a line that failed, a proper prefix of them.
+    // If memory ran out, the run stopped at one period. Each outgoing line that didn't fail has gained exactly the
+    // octets of the periods before it; a line that failed, a proper prefix of them.
     ensures cut { OnErr result (IsCutShort orders pace.now.batch pace.now.periods
         (T.lines trunk.old) (T.lines trunk.new)) }
 

@@ -54,8 +54,8 @@ fn keep(alloc: Global, last: &Stage, period: u32) -> Result<Saved, AllocError>
     })
 }
 
-/// Runs these orders over the lines of a trunk as `run` does, and marks the run at its end. An error says that memory ran out.
-/// The run waits for its workers; that it returns isn't proved.
+/// Runs these orders over the lines of a trunk as `run` does, and marks the run at its end. An error says that memory
+/// ran out. The run waits for its workers; that it returns isn't proved.
 pub fn save<R: Threads + Wait + Sync, T: Trunk, G: Gate + Sync>(
     rt: &R,
     alloc: Global,
@@ -68,8 +68,8 @@ pub fn save<R: Threads + Wait + Sync, T: Trunk, G: Gate + Sync>(
     ensures saves { IfOk result (λ saved. Saves orders pace.now
         (T.lines trunk.old) (T.lines trunk.new) saved) }
 
-    // If memory ran out, the run stopped at one period. Each outgoing line that didn't fail has gained exactly the octets of the
-    // periods before it; a line that failed, a proper prefix of them.
+    // If memory ran out, the run stopped at one period. Each outgoing line that didn't fail has gained exactly the
+    // octets of the periods before it; a line that failed, a proper prefix of them.
     ensures cut { OnErr result (IsCutShort orders pace.now.batch pace.now.periods
         (T.lines trunk.old) (T.lines trunk.new)) }
 

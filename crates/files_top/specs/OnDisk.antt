@@ -1,5 +1,5 @@
--- The run of given orders over the files of a folder, and what such a run leaves in them (this project's profile). `start` are the files before it,
--- `now` those after it.
+-- The run of given orders over the files of a folder, and what such a run leaves in them (this project's profile).
+-- `start` are the files before it, `now` those after it.
 use Rattle.std.specs.Prelude.{◌≡◌, ◌≢◌, ◌<◌, ◌⊎◌, ℕ, Bool, true, false, List, length, take, drop, Some}
 use Rattle.trau_io.specs.declared.line.Side.{Side}
 use Rattle.trau_io.specs.declared.line.Side.TheVariants.{Up, Pcm, Down, Out}
@@ -20,8 +20,8 @@ abbrev pub given_by : Bool → ℕ → List ℕ → List ℕ
 given_by false n octets = octets
 given_by true n octets = take n octets
 
--- what the incoming lines of a call give: the octets of their files at the start, none if there was no file; a line that failed gave only as many as
--- `gave` says
+-- what the incoming lines of a call give: the octets of their files at the start, none if there was no file; a line
+-- that failed gave only as many as `gave` says
 abbrev pub incoming_of : Disk → (ℕ → Side → Bool) → (ℕ → Side → ℕ) → ℕ → Incoming
 incoming_of start fails gave c = record {
   up = given_by (fails c Up) (gave c Up) (octets_at start c Up);
@@ -38,7 +38,8 @@ run_on orders periods start fails gave = record { lines = incoming_of start fail
 abbrev pub AreGiven : Disk → (ℕ → Side → ℕ) → (ℕ → Side → LineState) → Type 0
 AreGiven start gave after = (c : ℕ) (side : Side) → IsRecorded side → (after c side).to_come ≡ Some (drop (gave c side) (octets_at start c side))
 
--- If the line has any of these octets, its name leads to a file with exactly these. A line that failed has a proper prefix of them.
+-- If the line has any of these octets, its name leads to a file with exactly these. A line that failed has a proper
+-- prefix of them.
 abbrev pub HasOctets : Bool → Disk → ℕ → Side → List ℕ → Type 0
 HasOctets false disk call side octets = 0 < length octets → HasFile disk call side octets
 HasOctets true disk call side octets = (n : ℕ) × (n < length octets) × (0 < n → HasFile disk call side (take n octets))
@@ -48,15 +49,16 @@ abbrev pub AreTaken : Bool → List ℕ → List ℕ → Type 0
 AreTaken false octets taken = taken ≡ octets
 AreTaken true octets taken = (n : ℕ) × (n < length octets) × (taken ≡ take n octets)
 
--- the same of the line on this side of a call, by what its Out line and its Down line are to have; incoming lines take none
+-- the same of the line on this side of a call, by what its Out line and its Down line are to have; incoming lines take
+-- none
 abbrev pub AreTakenOn : Side → Bool → List ℕ → List ℕ → List ℕ → Type 0
 AreTakenOn Up fails out down taken = ⊥
 AreTakenOn Pcm fails out down taken = ⊥
 AreTakenOn Down fails out down taken = AreTaken fails down taken
 AreTakenOn Out fails out down taken = AreTaken fails out taken
 
--- The file is that of an outgoing line of a call that the run opens, and has exactly the octets that the line took: all that it is to have, or, if it
--- failed, a proper prefix.
+-- The file is that of an outgoing line of a call that the run opens, and has exactly the octets that the line took: all
+-- that it is to have, or, if it failed, a proper prefix.
 pub record IsOutgoingFile (now : Disk) (fails : ℕ → Side → Bool) (r : Run) (outs downs : ℕ → List ℕ) (f : FileIdentity) : Type 0 where
   pub call : ℕ
   pub side : Side

@@ -27,9 +27,9 @@ use Rattle.trau_files.specs.Honest.{IsHonest}
 use Rattle.trau_files.specs.Trunk.{TrunkFiles}
 use Rattle.files_top.specs.OnDisk.{AreGiven, FilesStay, KeepsRecordings, LeftOnDisk, run_on}
 
--- The headline over files: each outgoing file of each call that the run opens has exactly the octets that the definition of the call as a whole
--- gives, if it gives any; that of a line that failed has a proper prefix. In bridges each good speech frame's 260 bits go out unchanged, in
--- order and once.
+-- The headline over files: each outgoing file of each call that the run opens has exactly the octets that the
+-- definition of the call as a whole gives, if it gives any; that of a line that failed has a proper prefix. In bridges
+-- each good speech frame's 260 bits go out unchanged, in order and once.
 pub record HeadlineOnDisk (start now : Disk) (fails : ℕ → Side → Bool) (r : Run) : Type 0 where
   pub left : LeftOnDisk start now fails r (λ c. out (whole_call r c)) (λ c. octets_of (down (whole_call r c)))
   pub hands_over : HandsOver r
@@ -40,14 +40,15 @@ pub record AreRead (orders : List Order) (desk read : DeskState) : Type 0 where
   pub reads : ReadsOrders desk read (Ok orders)
   pub told : (text : List ℕ) → desk.to_come ≡ Some text → AnswersTold text (Ok orders)
 
--- A whole run, whichever lines failed, from the files `start` to the files `now`, and from the lines `before` to the lines `after`. `text_of` is what
--- is printed, by the run and the lines that failed.
+-- A whole run, whichever lines failed, from the files `start` to the files `now`, and from the lines `before` to the
+-- lines `after`. `text_of` is what is printed, by the run and the lines that failed.
 pub record RunsOnDisk (text_of : Run → List Line → List ℕ) (s : Settings) (start now : Disk) (before after : ℕ → Side → LineState) (desk desk' : DeskState)
     (status : ℕ) : Type 0 where
   pub orders : List Order
   pub read : DeskState
   pub are_read : AreRead orders desk read
-  -- the lines that failed, by their fault counts, none with status 0 and some with 6; and how many octets each incoming line gave
+  -- the lines that failed, by their fault counts, none with status 0 and some with 6; and how many octets each incoming
+  -- line gave
   pub failed : List Line
   pub told : TellsFailed before after failed
   pub gave : ℕ → Side → ℕ
@@ -57,8 +58,8 @@ pub record RunsOnDisk (text_of : Run → List Line → List ℕ) (s : Settings) 
   pub headline : HeadlineOnDisk start now (is_listed failed) (run_on orders s.periods start (is_listed failed) gave)
   pub text : TellsRun failed (text_of (run_on orders s.periods start (is_listed failed) gave) failed) read desk' status
 
--- A run that ran out of memory. It stopped at one period, the same for all calls: the files have what the run gives up to there, and that much of the
--- incoming lines was read.
+-- A run that ran out of memory. It stopped at one period, the same for all calls: the files have what the run gives up
+-- to there, and that much of the incoming lines was read.
 pub record CutOnDisk (s : Settings) (start now : Disk) (before after : ℕ → Side → LineState) (desk : DeskState) : Type 0 where
   pub orders : List Order
   pub read : DeskState
@@ -67,7 +68,8 @@ pub record CutOnDisk (s : Settings) (start now : Disk) (before after : ℕ → S
   pub told : AreFailures fails before after
   pub gave : ℕ → Side → ℕ
   pub given : AreGiven start gave after
-  -- this period: exactly the octets of the periods before it were read, unless the call ended before because of its lines
+  -- this period: exactly the octets of the periods before it were read, unless the call ended before because of its
+  -- lines
   pub clock : ℕ
   pub within : clock ≤ s.periods
   pub stops : StopsAt (run_on orders s.periods start fails gave) clock fails before after
@@ -75,8 +77,8 @@ pub record CutOnDisk (s : Settings) (start now : Disk) (before after : ℕ → S
       (λ c. take (160 * worked_to (run_on orders s.periods start fails gave) clock c) (out_of_call (run_on orders s.periods start fails gave) c))
       (λ c. take (40 * worked_to (run_on orders s.periods start fails gave) clock c) (down_of_call (run_on orders s.periods start fails gave) c))
 
--- What `run` or `save` leaves in the files, whatever fails: with status 0, 4 or 6 what a whole run leaves; with 5 maybe what a run leaves that ran
--- out of memory; or, with 2, 3, 5 and 7, all as it was.
+-- What `run` or `save` leaves in the files, whatever fails: with status 0, 4 or 6 what a whole run leaves; with 5 maybe
+-- what a run leaves that ran out of memory; or, with 2, 3, 5 and 7, all as it was.
 abbrev pub RunLeaves : (Run → List Line → List ℕ) → Settings → Disk → Disk → (ℕ → Side → LineState) → (ℕ → Side → LineState) → DeskState → DeskState → ℕ →
     Type 0
 RunLeaves text_of s start now before after desk desk' status =

@@ -48,7 +48,8 @@ disk_of files = record { file_of = λ name. option_map numbered (position (leads
 abbrev pub place_of : OpenedFile → Place
 place_of file = record { file = numbered file.number; at = file.at }
 
--- In its metadata a file's number stands as their length, since the standard library makes no metadata with a number of their own.
+-- In its metadata a file's number stands as their length, since the standard library makes no metadata with a number of
+-- their own.
 abbrev pub identity_of : Metadata → FileIdentity
 identity_of metadata = numbered (metadata_len metadata)
 

@@ -3,8 +3,8 @@ use Rattle.std.specs.Prelude.{◌≡◌, ℕ, ◌<◌, ◌^◌, ◌-◌, Bool, t
 use Rattle.std.proofs.Common.{arith, zero, suc}
 use Rattle.std.proofs.lemmas.List.{length-take, take_all}
 use Rattle.trau_files.specs.declared.trunk.claims.FileIdentity.{FileIdentity}
-use Rattle.trau_files.specs.declared.trunk.seats.Access.{Access}
-use Rattle.trau_files.specs.declared.trunk.seats.Access.TheVariants.{Reading, Writing}
+use Rattle.trau_files.specs.declared.trunk.bays.Access.{Access}
+use Rattle.trau_files.specs.declared.trunk.bays.Access.TheVariants.{Reading, Writing}
 use Rattle.trau_files.specs.Files.{options_for}
 use Rattle.memory_folder.specs.Memory.{StoredFile, bounded, disk_of, octets_on}
 

@@ -68,8 +68,8 @@ impl MemoryFile {
         count
     }
 
-    /// Writes a prefix of `bytes` over the octets from octet `at` on; at the file's end, all of them after it. Returns how many. A
-    /// write past the end is refused.
+    /// Writes a prefix of `bytes` over the octets from octet `at` on; at the file's end, all of them after it. Returns
+    /// how many. A write past the end is refused.
     pub fn write(&mut self, at: u64, bytes: &[u8]) -> io::Result<usize>
         ensures bound { IfOk result (λ n. n ≤ length bytes.now) }
         ensures octets { IfOk result (λ n. self.new ≡ record self.old { octets = written_at self.old.octets at (take n bytes.now) }) }

@@ -23,7 +23,8 @@ pub struct OpenedFile {
     at: u64,
 }
 
-/// A folder of files in memory, each with a name. A file's number is its place in the list. It has no links, and no file is removed. What is printed on its standard error is lost.
+/// A folder of files in memory, each with a name. A file's number is its place in the list. It has no links, and no
+/// file is removed. What is printed on its standard error is lost.
 #[derive(Drop)]
 pub struct MemoryFolder {
     alloc: Global,

@@ -1,9 +1,11 @@
 //! A folder of files in memory, as drills have their lines in memory; it is an honest one, by proof.
 //!
-//! The lines, the top function and its headline over files are of any folder (`Folder` of `trau_files`). Of the system's folder it
-//! isn't known that it is honest. Of this one it is proved: so at this type the headline speaks of octets (`run_in_memory`).
-//! Definitions: `specs/Memory.antt` (the files, and what each operation did), `specs/Honest.antt` (that this is what an honest folder
-//! does).
+//! Layer: The top function and the program.
+//!
+//! The lines, the top function and its headline over files are of any folder (`Folder` of `trau_files`). Of the
+//! system's folder it isn't known that it is honest. Of this one it is proved: so at this type the headline speaks of
+//! octets (`run_in_memory`). Definitions: `specs/Memory.antt` (the files, and what each operation did),
+//! `specs/Honest.antt` (that this is what an honest folder does).
 #![tactic(auto)]
 
 mod file;

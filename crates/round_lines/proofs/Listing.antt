@@ -1,4 +1,5 @@
--- For crates above: one more item of a list appends its own list, or lists one item or none (`appended_more`, `listed_more`).
+-- For crates above: one more item of a list appends its own list, or lists one item or none (`appended_more`,
+-- `listed_more`).
 use Rattle.std.proofs.Common.{◌≡◌, sym, ap, ◌∙◌, ℕ, ◌+◌, ◌<◌, Option, List, [], ◌∷◌, ◌++◌, length, get_or, take, append_assoc, append-nil}
 use Rattle.std.specs.List.{filter_map, cons_option, flat_map}
 use Rattle.std.proofs.lemmas.List.{take_more}

@@ -1,4 +1,5 @@
--- The state of a call's lines in a round, with the call's number and the number of the round's periods (this project's profile).
+-- The state of a call's lines in a round, with the call's number and the number of the round's periods (this project's
+-- profile).
 use Rattle.std.specs.Prelude.{◌≡◌, ℕ, ◌+◌, ◌*◌, ◌≤◌, ◌==◌, Bool, true, false, if◌then◌else◌, Option, Some, None, List, [], ◌∷◌}
 use Rattle.std.specs.List.{filter_map}
 use Rattle.call_number.specs.CallNumber.{IsCallNumber}
@@ -63,7 +64,8 @@ given_in p = record {
 abbrev pub whole_in : LinesMemory → ℕ
 whole_in p = whole_of (given_in p)
 
--- Where and why a call ends in a round from period `start` on: at the first period that its lines lack; None if they gave all.
+-- Where and why a call ends in a round from period `start` on: at the first period that its lines lack; None if they
+-- gave all.
 abbrev pub end_in_round : ℕ → LinesMemory → Option CallEnd
 end_in_round start p = if whole_in p == p.periods then None
     else Some (record {

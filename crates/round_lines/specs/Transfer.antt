@@ -6,7 +6,8 @@ use Rattle.round_lines.specs.declared.transfer.Taken.{Taken}
 use Rattle.round_lines.specs.declared.transfer.Outlet.{Outlet}
 use Rattle.round_lines.specs.declared.transfer.Outlet.TheVariants.{Sound, FailedBefore, FailedNow}
 
--- The next octets of a line went to the start of a block. If they don't fill it, the line ended there, or it failed and its count rose.
+-- The next octets of a line went to the start of a block. If they don't fill it, the line ended there, or it failed and
+-- its count rose.
 pub record Takes (before now : LineState) (t : Taken) (block : List ℕ) : Type 0 where
   pub bound : t.count ≤ length block
   pub given : Consumes before.to_come now.to_come (take t.count block)
@@ -35,7 +36,8 @@ HasWritten false before now octets = Appends before.written now.written octets
 HasWritten true before now octets =
     (n : ℕ) × (n < length octets) × Appends before.written now.written (take n octets)
 
--- A line that failed before is skipped. Any other line gained all the octets, or it failed after a proper prefix of them and its count rose.
+-- A line that failed before is skipped. Any other line gained all the octets, or it failed after a proper prefix of
+-- them and its count rose.
 pub record LineGives (before now : LineState) (was stands : Outlet) (octets : List ℕ) : Type 0 where
   pub passed : has_failed was ≡ true → (now ≡ before) × (stands ≡ was)
   pub all : has_failed stands ≡ false → Appends before.written now.written octets
@@ -46,7 +48,8 @@ pub record LineGives (before now : LineState) (was stands : Outlet) (octets : Li
   pub later : before.faults ≤ now.faults
   pub to_come : now.to_come ≡ before.to_come
 
--- If a line's octets are known and its count didn't rise, it gave the next of them, as many as the block and the line have.
+-- If a line's octets are known and its count didn't rise, it gave the next of them, as many as the block and the line
+-- have.
 abbrev pub TakesClean : LineState → LineState → Taken → List ℕ → Type 0
 TakesClean before now t block = (octets : List ℕ) →
     before.to_come ≡ Some octets → NotRose before.faults now.faults →

@@ -1,5 +1,7 @@
 //! The lines of the calls in a round: what a round reads from them and writes to them, and where a call ends.
 //!
+//! Layer: Orders, marks, the board, the lines of a round.
+//!
 //! Between reading and writing (`trau_io`) and the processing of a round. `CallLines::fill` reads the octets of a
 //! call's Up and Pcm lines into the call's buffers. The call's processing reads these and fills the buffers of the
 //! outgoing lines; `CallLines::drain` writes them to Down and Out. From what was read, the crate finds where and why a
@@ -11,7 +13,7 @@
 //! handles one block of a line, and `laws` has the laws.
 //!
 //! Definitions: `specs/Transfer.antt` (one block), `specs/Memory.antt` (whole periods, ends, failed lines),
-//! `specs/Seats.antt` (one call: the state of its lines, and its buffers), `specs/Rounds.antt` (many calls),
+//! `specs/Portions.antt` (one call: the state of its lines, and its buffers), `specs/Rounds.antt` (many calls),
 //! `specs/Shifts.antt` (earlier periods in front).
 #![tactic(auto)]
 

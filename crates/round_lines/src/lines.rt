@@ -4,7 +4,7 @@ ghost use Rattle.trau_io.specs.declared.line.Side.TheVariants.{Up, Pcm, Down, Ou
 ghost use Rattle.trau_io.specs.Lines.{OthersStay};
 ghost use Rattle.round_lines.specs.Transfer.{Takes, LineGives};
 ghost use Rattle.round_lines.specs.Memory.{whole_in};
-ghost use Rattle.round_lines.specs.Seats.{Fits, Fills, Drains, seat_from, down_given, out_given};
+ghost use Rattle.round_lines.specs.Portions.{Fits, Fills, Drains, portion_from, down_given, out_given};
 ghost use Rattle.round_lines.specs.Rounds.{KeepsBut, IsIncoming, IsOutgoing};
 
 use crate::call_lines::CallLines;
@@ -42,8 +42,8 @@ impl CallLines {
         requires pcm { length pcm.old ≡ 160 * self.old.periods }
         ensures fills { (down out : List ℕ) → Fills
             (T.lines trunk.old self.old.call) (T.lines trunk.new self.old.call)
-            (seat_from self.old up.old pcm.old down out)
-            (seat_from self.new up.new pcm.new down out) }
+            (portion_from self.old up.old pcm.old down out)
+            (portion_from self.new up.new pcm.new down out) }
         ensures others { KeepsBut IsIncoming (T.lines trunk.old) (T.lines trunk.new) self.old.call }
     {
         self.take_up(trunk, up);
@@ -78,8 +78,8 @@ impl CallLines {
         requires out { length out.now ≡ 160 * self.old.periods }
         ensures drains { (up pcm : List ℕ) → Drains
             (T.lines trunk.old self.old.call) (T.lines trunk.new self.old.call)
-            (seat_from self.old up pcm down.now out.now)
-            (seat_from self.new up pcm down.now out.now) }
+            (portion_from self.old up pcm down.now out.now)
+            (portion_from self.new up pcm down.now out.now) }
         ensures others { KeepsBut IsOutgoing (T.lines trunk.old) (T.lines trunk.new) self.old.call }
     {
         let whole = self.whole() as usize;

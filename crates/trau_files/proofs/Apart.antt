@@ -3,7 +3,7 @@ use Rattle.std.proofs.Common.{◌≡◌, ◌≢◌, ◌<◌, ◌∙◌, ℕ, Lis
 use Rattle.std.proofs.Common.{arith, inl, inr, sym}
 use Rattle.trau_files.specs.Claims.{AreApart, MayHave, MayShare, claim_at}
 use Rattle.trau_files.specs.declared.trunk.claims.Claim.{Claim}
-use Rattle.trau_files.proofs.Seating.{empty, set_place, within}
+use Rattle.trau_files.proofs.BayLaws.{empty, set_place, within}
 
 pub apart_of_none : (claims : List (Option Claim)) → All (λ claim. claim ≡ None) claims → AreApart claims
 apart_of_none claims none i j a b at_i at_j other same = let e = empty claims none i in cc

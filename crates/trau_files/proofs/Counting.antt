@@ -4,7 +4,7 @@ use Rattle.std.proofs.Common.{ap, arith, slice_get, slice_index_or, slice_set, i
 use Rattle.trau_io.specs.declared.line.Side.{Side}
 use Rattle.trau_io.specs.Indices.{index_of_line}
 use Rattle.trau_io.proofs.Tables.{same_line}
-use Rattle.trau_files.proofs.Seating.{set_place, set_there}
+use Rattle.trau_files.proofs.BayLaws.{set_place, set_there}
 use Rattle.trau_files.specs.Files.{FileLine}
 use Rattle.trau_files.specs.Holds.{IsCounted, line_at}
 use Rattle.trau_files.proofs.Cases.{same_or_other}

@@ -1,4 +1,4 @@
--- What lines gave and took, the seats of their files and what is known of the other lines, after one line's operation.
+-- What lines gave and took, the bays of their files and what is known of the other lines, after one line's operation.
 use Rattle.std.proofs.Common.{◌≡◌, ◌∙◌, ◌<◌, ◌+◌, ℕ, List, [], ◌∷◌, ◌++◌, length, take, drop, Option, Some}
 use Rattle.std.proofs.Common.{ap, ap₂, append-nil, append_assoc, arith, length-append, take_at, take-append-drop, eq-zero-or-pos, inl, inr, refl, subst, sym}
 use Rattle.trau_io.specs.declared.line.Side.{Side}
@@ -6,14 +6,14 @@ use Rattle.trau_io.specs.Indices.{index_of_line}
 use Rattle.trau_io.specs.Lines.{OthersStay}
 use Rattle.trau_io.proofs.Tables.{same_line}
 use Rattle.trau_files.specs.declared.trunk.claims.Claim.{Claim}
-use Rattle.trau_files.specs.declared.trunk.seats.Access.{Access}
-use Rattle.trau_files.specs.declared.trunk.seats.Access.TheVariants.{Reading, Writing}
+use Rattle.trau_files.specs.declared.trunk.bays.Access.{Access}
+use Rattle.trau_files.specs.declared.trunk.bays.Access.TheVariants.{Reading, Writing}
 use Rattle.trau_files.specs.Claims.{AreApart, claim_at}
-use Rattle.trau_files.specs.Files.{states_of, FileLine, IsOpenAt, IsMovedBy, OpenAfter, OpenLine, file_name, in_seat, raised}
+use Rattle.trau_files.specs.Files.{states_of, FileLine, IsOpenAt, IsMovedBy, OpenAfter, OpenLine, file_name, in_bay, raised}
 use Rattle.trau_files.specs.Disk.{octets_if, Disk, Place}
 use Rattle.trau_files.specs.Holds.{contents_of, FilesHold, Gains, IsLine, IsPlaced, IsUnwritten}
 use Rattle.trau_files.proofs.Cases.{same_or_other}
-use Rattle.trau_files.proofs.Noting.{Grows, placed_still}
+use Rattle.trau_files.proofs.Honest.Noting.{Grows, placed_still}
 
 -- octets that follow those at a list's start are at its start too
 begins : (xs ys zs whole : List ℕ) → xs ≡ take (length xs) whole → drop (length xs) whole ≡ ys ++ zs → xs ++ ys ≡ take (length (xs ++ ys)) whole
@@ -56,12 +56,12 @@ read_unwritten claims p c apart there reads k d at writes same = elim (same_or_o
   | inr other ↦ let both = apart k p d c at there other same in let never : ⊥ = cc in never
 ]
 
--- each seat's file is placed, after one line's file was found, or closed
-pub seats_after : {F : Type 0} (place : F → Place) (claims claims' : List (Option Claim)) (seats seats' : List (Option (OpenLine F))) (call : ℕ) (side : Side)
-    (file : Option (OpenLine F)) → ((k : ℕ) (o : OpenLine F) → in_seat seats k ≡ Some o → IsPlaced place claims o) → Grows claims claims' →
-    OpenAfter seats seats' call side file → ((o : OpenLine F) → file ≡ Some o → IsPlaced place claims' o) →
-    (k : ℕ) (o : OpenLine F) → in_seat seats' k ≡ Some o → IsPlaced place claims' o
-seats_after place claims claims' seats seats' call side file before grows after this k o there = elim (after.others k) [
+-- each bay's file is placed, after one line's file was found, or closed
+pub bays_after : {F : Type 0} (place : F → Place) (claims claims' : List (Option Claim)) (bays bays' : List (Option (OpenLine F))) (call : ℕ) (side : Side)
+    (file : Option (OpenLine F)) → ((k : ℕ) (o : OpenLine F) → in_bay bays k ≡ Some o → IsPlaced place claims o) → Grows claims claims' →
+    OpenAfter bays bays' call side file → ((o : OpenLine F) → file ≡ Some o → IsPlaced place claims' o) →
+    (k : ℕ) (o : OpenLine F) → in_bay bays' k ≡ Some o → IsPlaced place claims' o
+bays_after place claims claims' bays bays' call side file before grows after this k o there = elim (after.others k) [
   | inl same ↦ placed_still place claims claims' o grows (before k o (sym same ∙ there))
   | inr (inl none) ↦ let never : ⊥ = cc in absurd never
   | inr (inr is) ↦ this o (sym is ∙ there)

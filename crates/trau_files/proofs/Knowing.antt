@@ -10,13 +10,13 @@ use Rattle.trau_io.specs.Lines.{HasCause, LineState, OthersStay, Reads, Rose, Wr
 use Rattle.trau_io.proofs.Tables.{same_line}
 use Rattle.trau_files.proofs.Counting.{counted, got}
 use Rattle.trau_files.proofs.Cases.{nothing_of, reads_or_writes, same_or_other}
-use Rattle.trau_files.proofs.HonestLaws.{took_files}
-use Rattle.trau_files.proofs.Seating.{empty}
+use Rattle.trau_files.proofs.Honest.Known.{took_files}
+use Rattle.trau_files.proofs.BayLaws.{empty}
 use Rattle.trau_files.specs.declared.trunk.claims.Claim.{Claim}
 use Rattle.trau_files.specs.declared.trunk.claims.FileIdentity.{FileIdentity}
 use Rattle.trau_files.specs.Claims.{OthersKeep, claim_at}
 use Rattle.trau_files.specs.Contents.{CountsStay, HaveUsedThem, IsAtStart, IsForReading, IsMade, IsRecorded, Knows, KnowsIf, NotesNoWriting, contents_if, contents_in, first_if, line_of, rest_of, taken_of}
-use Rattle.trau_files.specs.Files.{FileLine, OpenFiles, OpenLine, file_name, in_seat, known_line, states_of}
+use Rattle.trau_files.specs.Files.{FileLine, OpenFiles, OpenLine, file_name, in_bay, known_line, states_of}
 use Rattle.trau_files.specs.Folder.{Operations}
 use Rattle.trau_files.specs.Disk.{Disk, octets_if}
 use Rattle.trau_files.specs.Honest.{IsHonest}
@@ -290,7 +290,7 @@ refuse_known None start old new call side e bytes read known others counts same 
 refuse_known {D = D} {F = F} {does = does} (Some honest) start old new call side e bytes read known others counts same knows =
     let holds : Holds honest start knows.given knows.put new = record {
       files = subst (λ (fs : OpenFiles D F). FilesHold start (honest.disk fs.folder) fs.claims knows.given knows.put) (sym same) knows.holds.files;
-      seats = subst (λ (fs : OpenFiles D F). (k : ℕ) (o : OpenLine F) → in_seat fs.seats k ≡ Some o → IsPlaced honest.place fs.claims o) (sym same) knows.holds.seats;
+      bays = subst (λ (fs : OpenFiles D F). (k : ℕ) (o : OpenLine F) → in_bay fs.bays k ≡ Some o → IsPlaced honest.place fs.claims o) (sym same) knows.holds.bays;
       counts = λ c s. let was = knows.holds.counts c s in let is = counts (index_of_line c s) in (is.0 ∙ was.0, is.1 ∙ was.1, was.2, was.3);
     } in
     let before = contents_is does honest start knows.given knows.put old knows.holds call side in

@@ -4,12 +4,12 @@ use Rattle.trau_io.specs.declared.line.Side.{Side}
 use Rattle.trau_io.specs.declared.line.Side.TheVariants.{Up, Pcm, Down, Out}
 use Rattle.trau_io.specs.Indices.{index_of_line}
 use Rattle.trau_files.proofs.Cases.{line_with, reads_or_writes, same_or_other}
-use Rattle.trau_files.proofs.HonestLaws.{took_files}
+use Rattle.trau_files.proofs.Honest.Known.{took_files}
 use Rattle.trau_files.proofs.Knowing.{taken_is}
 use Rattle.trau_files.specs.declared.trunk.claims.Claim.{Claim}
 use Rattle.trau_files.specs.declared.trunk.claims.FileIdentity.{FileIdentity}
-use Rattle.trau_files.specs.declared.trunk.seats.Access.{Access}
-use Rattle.trau_files.specs.declared.trunk.seats.Access.TheVariants.{Reading, Writing}
+use Rattle.trau_files.specs.declared.trunk.bays.Access.{Access}
+use Rattle.trau_files.specs.declared.trunk.bays.Access.TheVariants.{Reading, Writing}
 use Rattle.trau_files.specs.Claims.{claim_at}
 use Rattle.trau_files.specs.Contents.{HasFile, IsMade, IsRecorded, IsWrittenFor, Knows, rest_of, taken_of}
 use Rattle.trau_files.specs.Files.{file_name, states_of}

@@ -5,13 +5,13 @@ use Rattle.trau_io.specs.declared.line.Side.{Side}
 use Rattle.trau_files.specs.declared.trunk.claims.Claim.{Claim}
 use Rattle.trau_files.specs.declared.trunk.fault.Fault.{Fault}
 use Rattle.trau_files.specs.declared.trunk.fault.Fault.TheVariants.{System}
-use Rattle.trau_files.specs.declared.trunk.seats.Access.{Access}
-use Rattle.trau_files.specs.declared.trunk.seats.Access.TheVariants.{Reading, Writing}
+use Rattle.trau_files.specs.declared.trunk.bays.Access.{Access}
+use Rattle.trau_files.specs.declared.trunk.bays.Access.TheVariants.{Reading, Writing}
 use Rattle.trau_files.specs.Files.{FileAfter, FileGives, FileTakes, OpenAfter, OpenFiles, OpenLine}
 use Rattle.trau_files.specs.Folder.{Operations}
 use Rattle.trau_files.specs.Opening.{LacksDescriptor, Opens, OpensOnce}
 use Rattle.trau_files.specs.Trunk.{IsFound, ReadsFile, WritesFile}
-use Rattle.trau_files.proofs.Seating.{open_twice}
+use Rattle.trau_files.proofs.BayLaws.{open_twice}
 
 -- a file that was found is the line's
 pub its_line : {D F : Type 0} (does : Operations D F) (old : OpenFiles D F) (folder : D) (claims : List (Option Claim)) (call : ℕ) (side : Side)
@@ -23,30 +23,30 @@ its_line does old folder claims call side access at (Some o) found = (found.stan
 module _ {D F : Type 0} (does : Operations D F) (old new : OpenFiles D F) (mid : List (Option (OpenLine F))) (call : ℕ) (side : Side) (at : ℕ) where
   -- the file that was found stays the line's, or is closed
   still : (access : Access) (folder : D) (o : OpenLine F) (file : Option (OpenLine F)) → IsFound does old folder new.claims call side access at o →
-      OpenAfter old.seats mid call side (Some o) → OpenAfter mid new.seats o.call o.side file → OpenAfter old.seats new.seats call side file
-  still access folder o file found first second = open_twice old.seats mid new.seats o file call side found.stands.0 found.stands.1 first second
+      OpenAfter old.bays mid call side (Some o) → OpenAfter mid new.bays o.call o.side file → OpenAfter old.bays new.bays call side file
+  still access folder o file found first second = open_twice old.bays mid new.bays o file call side found.stands.0 found.stands.1 first second
 
   pub reads_file : (was file : Option (OpenLine F)) (result : Result ℕ Fault) (buf : List ℕ) →
-      IsSomeAnd was (IsFound does old new.folder new.claims call side Reading at) → OpenAfter old.seats mid call side was →
+      IsSomeAnd was (IsFound does old new.folder new.claims call side Reading at) → OpenAfter old.bays mid call side was →
       IfSome was (λ o. FileAfter o result file) → IfSome was (λ o. FileGives does new.folder o file result buf) →
-      IfSome was (λ o. OpenAfter mid new.seats o.call o.side file) → ReadsFile does old new call side at result buf
+      IfSome was (λ o. OpenAfter mid new.bays o.call o.side file) → ReadsFile does old new call side at result buf
   reads_file None file result buf found first after gives second = absurd found
   reads_file (Some o) None (Ok n) buf found first after gives second = absurd after
   reads_file (Some o) (Some now) (Ok n) buf found first after gives second =
       (o, now, record { found = found; moved = after; still = still Reading new.folder o (Some now) found first second }, gives)
   reads_file (Some o) file (Err fault) buf found first after gives second =
-      (subst (OpenAfter old.seats new.seats call side) after (still Reading new.folder o file found first second), inr (o, found, gives))
+      (subst (OpenAfter old.bays new.bays call side) after (still Reading new.folder o file found first second), inr (o, found, gives))
 
   pub writes_file : (folder : D) (was file : Option (OpenLine F)) (result : Result ℕ Fault) (bytes : List ℕ) →
-      IsSomeAnd was (IsFound does old folder new.claims call side Writing at) → OpenAfter old.seats mid call side was →
+      IsSomeAnd was (IsFound does old folder new.claims call side Writing at) → OpenAfter old.bays mid call side was →
       IfSome was (λ o. FileAfter o result file) → IfSome was (λ o. FileTakes does folder new.folder o file result bytes) →
-      IfSome was (λ o. OpenAfter mid new.seats o.call o.side file) → WritesFile does old new call side at result bytes
+      IfSome was (λ o. OpenAfter mid new.bays o.call o.side file) → WritesFile does old new call side at result bytes
   writes_file folder None file result bytes found first after takes second = absurd found
   writes_file folder (Some o) None (Ok n) bytes found first after takes second = absurd after
   writes_file folder (Some o) (Some now) (Ok n) bytes found first after takes second =
       (folder, o, now, record { found = found; moved = after; still = still Writing folder o (Some now) found first second }, takes)
   writes_file folder (Some o) file (Err fault) bytes found first after takes second =
-      (subst (OpenAfter old.seats new.seats call side) after (still Writing folder o file found first second), inr (folder, o, found, takes))
+      (subst (OpenAfter old.bays new.bays call side) after (still Writing folder o file found first second), inr (folder, o, found, takes))
 
 -- a second attempt, since no descriptor was left for the first
 pub opens_again : {D F : Type 0} (does : Operations D F) (old mid new : D) (old_claims mid_claims new_claims : List (Option Claim)) (call : ℕ) (side : Side)

@@ -7,7 +7,7 @@ use Rattle.trau_io.specs.Indices.{index_of_line}
 use Rattle.trau_files.specs.declared.trunk.claims.Claim.{Claim}
 use Rattle.trau_files.specs.declared.trunk.fault.Fault.{Fault}
 use Rattle.trau_files.specs.declared.trunk.fault.Fault.TheVariants.{System, Shared}
-use Rattle.trau_files.specs.declared.trunk.seats.Access.TheVariants.{Reading}
+use Rattle.trau_files.specs.declared.trunk.bays.Access.TheVariants.{Reading}
 use Rattle.trau_files.specs.Claims.{NotesFile, claim_at}
 use Rattle.trau_files.specs.Files.{FileLine, OpenFiles, OpenLine}
 use Rattle.trau_files.specs.Folder.{Operations}

@@ -8,9 +8,9 @@ use Rattle.trau_io.proofs.Tables.{same_line}
 use Rattle.trau_files.specs.declared.trunk.claims.FileIdentity.{FileIdentity}
 use Rattle.trau_files.specs.Files.{file_name}
 use Rattle.trau_files.specs.Folder.{Operations}
-use Rattle.trau_files.specs.Recordings.{AreRecordings, AreSearched, IsMissing, IsNoRecording, IsRecording, LeadsNowhere, LedNowhere, LedTo, noted_at}
+use Rattle.trau_files.specs.Recordings.{AreLed, AreRecordings, AreSearched, IsLed, IsMissing, IsNoRecording, IsRecording, LeadsNowhere, LedNowhere, noted_at}
 use Rattle.trau_files.proofs.Cases.{same_or_other}
-use Rattle.trau_files.proofs.Seating.{empty, set_place, within}
+use Rattle.trau_files.proofs.BayLaws.{empty, set_place, set_there, within}
 
 module _ {D F : Type 0} (does : Operations D F) where
   pub none_noted : (files : List (Option FileIdentity)) → All (λ (f : Option FileIdentity). f ≡ None) files → AreRecordings does files
@@ -30,6 +30,38 @@ module _ {D F : Type 0} (does : Operations D F) where
         let same : file ≡ found = cc in
         subst (λ (f : FileIdentity). IsRecording does k f) (sym same) (subst (λ (x : ℕ). IsRecording does x found) (sym s.0) is)
     | inr s ↦ are k file (sym s ∙ there)
+  ]
+
+  -- each noted file is one to which its name leads
+  pub none_led : (Led : List ℕ → FileIdentity → Type 0) (files : List (Option FileIdentity)) → ((k : ℕ) (file : FileIdentity) → noted_at files k ≢ Some file) → AreLed Led files
+  none_led Led files none k file there = absurd (none k file there)
+
+  pub one_led : (Led : List ℕ → FileIdentity → Type 0) (files : List (Option FileIdentity)) (call : ℕ) (side : Side) (found : FileIdentity) →
+      Led (file_name call side) found → AreLed Led files → AreLed Led (slice_set files (index_of_line call side) (Some found))
+  one_led Led files call side found is are k file there = elim (set_place files (index_of_line call side) (Some found) None k) [
+    | inl s ↦
+        let both : Some file ≡ Some found = sym there ∙ s.1 in
+        let same : file ≡ found = cc in
+        (call, side, s.0, subst (λ (f : FileIdentity). Led (file_name call side) f) (sym same) is)
+    | inr s ↦ are k file (sym s ∙ there)
+  ]
+
+  pub were_led : (folder : D) (made : Bool) (files : List (Option FileIdentity)) → made ≡ false → AreRecordings does files → AreLed (IsLed does folder made) files
+  were_led folder false files older are k file there = let found = are k file there in (found.call, found.side, found.place, found.led)
+  were_led folder true files older are k file there = let never : ⊥ = cc in absurd never
+
+  pub now_cleared : (files : List (Option FileIdentity)) (place : ℕ) → place < length files →
+      ((k : ℕ) (file : FileIdentity) → k < place → noted_at files k ≢ Some file) →
+      (k : ℕ) (file : FileIdentity) → k < place + 1 → noted_at (slice_set files place None) k ≢ Some file
+  now_cleared files place inside before k file low there = elim (same_or_other k place) [
+    | inl same ↦
+        let none : noted_at (slice_set files place None) place ≡ None = set_there files place None None inside in
+        let some : noted_at (slice_set files place None) place ≡ Some file = ap (noted_at (slice_set files place None)) (sym same) ∙ there in
+        let never : ⊥ = cc in absurd never
+    | inr other ↦ elim (set_place files place None None k) [
+      | inl s ↦ absurd (other s.0)
+      | inr s ↦ before k file (omega (arith, low, other)) (sym s ∙ there)
+    ]
   ]
 
   pub still_searched : (Missing : List ℕ → Type 0) (files : List (Option FileIdentity)) (p : ℕ) (found : FileIdentity) (below : ℕ) →
@@ -73,6 +105,10 @@ module _ {D F : Type 0} (does : Operations D F) where
       ((k : ℕ) → k < n → noted_at files k ≢ Some file) → (k : ℕ) → noted_at files k ≢ Some file
   noted_nowhere files file n size before k there = before k (omega (arith, within files k file there, size)) there
 
+  pub cleared_all : (files : List (Option FileIdentity)) (n : ℕ) → length files ≡ n → ((k : ℕ) (file : FileIdentity) → k < n → noted_at files k ≢ Some file) →
+      (k : ℕ) (file : FileIdentity) → noted_at files k ≢ Some file
+  cleared_all files n size before k file there = before k file (omega (arith, within files k file there, size)) there
+
   -- a folder that is asked as it is was asked at some time
   pub were_searched : (folder : D) (files : List (Option FileIdentity)) (below : ℕ) → AreSearched (LeadsNowhere does folder) files below →
       AreSearched (LedNowhere does) files below
@@ -85,19 +121,19 @@ module _ {D F : Type 0} (does : Operations D F) where
   now_searched folder false files below searched = were_searched folder files below searched
 
   -- no incoming line's name led to a file that is noted for none
-  pub no_recording : (folder : D) (made : Bool) (files : List (Option FileIdentity)) (file : FileIdentity) → AreRecordings does files →
+  pub no_recording : (folder : D) (made : Bool) (files : List (Option FileIdentity)) (file : FileIdentity) → AreLed (IsLed does folder made) files →
       AreSearched (IsMissing does folder made) files (LAST_CALL + 1) → ((k : ℕ) → noted_at files k ≢ Some file) → IsNoRecording does folder made file
   no_recording folder made files file are searched none call side incoming = elsewhere (noted_at files (index_of_line call side)) refl
     where
       elsewhere : (o : Option FileIdentity) → noted_at files (index_of_line call side) ≡ o →
-          IsMissing does folder made (file_name call side) ⊎ ((other : FileIdentity) × LedTo does (file_name call side) other × (other ≢ file))
+          IsMissing does folder made (file_name call side) ⊎ ((other : FileIdentity) × IsLed does folder made (file_name call side) other × (other ≢ file))
       elsewhere None is = inl (searched call side incoming (omega (arith, incoming.1)) is)
       elsewhere (Some other) is =
           let found = are (index_of_line call side) other is in
-          let line = same_line call found.call side found.side found.place in
+          let line = same_line call found.0 side found.1 found.2 in
           inr (
             other,
-            subst (λ (x : ℕ). LedTo does (file_name x side) other) (sym line.0)
-                (subst (λ (x : Side). LedTo does (file_name found.call x) other) (sym line.1) found.led),
+            subst (λ (x : ℕ). IsLed does folder made (file_name x side) other) (sym line.0)
+                (subst (λ (x : Side). IsLed does folder made (file_name found.0 x) other) (sym line.1) found.3),
             λ same. none (index_of_line call side) (is ∙ ap Some same),
           )

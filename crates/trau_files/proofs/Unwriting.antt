@@ -7,8 +7,8 @@ use Rattle.trau_io.specs.Indices.{index_of_line}
 use Rattle.trau_files.specs.declared.trunk.claims.Claim.{Claim}
 use Rattle.trau_files.specs.declared.trunk.fault.Fault.{Fault}
 use Rattle.trau_files.specs.declared.trunk.fault.Fault.TheVariants.{System, Shared}
-use Rattle.trau_files.specs.declared.trunk.seats.Access.{Access}
-use Rattle.trau_files.specs.declared.trunk.seats.Access.TheVariants.{Reading, Writing}
+use Rattle.trau_files.specs.declared.trunk.bays.Access.{Access}
+use Rattle.trau_files.specs.declared.trunk.bays.Access.TheVariants.{Reading, Writing}
 use Rattle.trau_files.specs.Claims.{NotesFile, claim_at}
 use Rattle.trau_files.specs.Contents.{NotesNoWriting}
 use Rattle.trau_files.specs.Files.{FileLine, OpenFiles, OpenLine}

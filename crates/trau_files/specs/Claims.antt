@@ -3,7 +3,7 @@ use Rattle.std.specs.Prelude.{◌≡◌, ◌≢◌, ◌⊎◌, ℕ, List, Option
 use Rattle.std.specs.Fs.{IsFile, file_type}
 use Rattle.std.specs.declared.fs.attrs.Metadata.{Metadata}
 use Rattle.trau_files.specs.declared.trunk.claims.Claim.{Claim}
-use Rattle.trau_files.specs.declared.trunk.seats.Access.TheVariants.{Reading, Writing}
+use Rattle.trau_files.specs.declared.trunk.bays.Access.TheVariants.{Reading, Writing}
 
 -- a line's note: the last file on a disk that the line with this index was opened with, if there is one
 abbrev pub claim_at : List (Option Claim) → ℕ → Option Claim

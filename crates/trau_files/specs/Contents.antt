@@ -6,7 +6,7 @@ use Rattle.trau_io.specs.Indices.{index_of_line}
 use Rattle.trau_io.specs.Lines.{LineState}
 use Rattle.trau_files.specs.declared.trunk.claims.Claim.{Claim}
 use Rattle.trau_files.specs.declared.trunk.claims.FileIdentity.{FileIdentity}
-use Rattle.trau_files.specs.declared.trunk.seats.Access.TheVariants.{Reading, Writing}
+use Rattle.trau_files.specs.declared.trunk.bays.Access.TheVariants.{Reading, Writing}
 use Rattle.trau_files.specs.Claims.{claim_at}
 use Rattle.trau_files.specs.Files.{FileLine, file_name, states_of}
 use Rattle.trau_files.specs.Folder.{Operations}
@@ -33,8 +33,8 @@ IsMade Out = Unit {0}
 abbrev pub rest_of : Disk → Option FileIdentity → ℕ → List ℕ
 rest_of start file n = drop n (octets_if start file)
 
--- a line by the file that its name led to at the start, how many octets it gave, which it took, and how often it failed: of a recorded line the
--- octets to come are known, of one that is made those that were written
+-- a line by the file that its name led to at the start, how many octets it gave, which it took, and how often it
+-- failed: of a recorded line the octets to come are known, of one that is made those that were written
 abbrev pub line_of : Disk → Side → Option FileIdentity → ℕ → List ℕ → ℕ → LineState
 line_of start Up file gave took faults = record { to_come = Some (rest_of start file gave); written = None; faults = faults }
 line_of start Pcm file gave took faults = record { to_come = Some (rest_of start file gave); written = None; faults = faults }
@@ -63,8 +63,8 @@ abbrev pub HaveUsedThem : List (Option Claim) → (ℕ → Side → List ℕ) �
 HaveUsedThem claims put lines = (call : ℕ) (side : Side) (c : Claim) → claim_at claims (index_of_line call side) ≡ Some c → c.access ≡ Writing →
     (0 < length (put call side)) ⊎ (0 < (states_of lines call side).faults)
 
--- an honest folder that was `start` at first holds what its lines gave and took; no recorded line has a file for writing, and each line that has
--- one for writing used it
+-- an honest folder that was `start` at first holds what its lines gave and took; no recorded line has a file for
+-- writing, and each line that has one for writing used it
 pub record Knows {D F : Type 0} {does : Operations D F} (honest : IsHonest does) (start : Disk) (t : TrunkFiles D F) : Type 0 where
   pub given : ℕ → Side → List ℕ
   pub put : ℕ → Side → List ℕ
@@ -72,7 +72,8 @@ pub record Knows {D F : Type 0} {does : Operations D F} (honest : IsHonest does)
   pub recorded : (call : ℕ) (side : Side) → IsRecorded side → IsForReading t.files.claims (index_of_line call side)
   pub used : HaveUsedThem t.files.claims put t.lines
 
--- what a trunk's lines are, and what is known of a trunk over a folder: nothing of octets if it isn't known to be honest
+-- what a trunk's lines are, and what is known of a trunk over a folder: nothing of octets if it isn't known to be
+-- honest
 abbrev pub contents_if : {D F : Type 0} {does : Operations D F} → Option (IsHonest does) → Disk → TrunkFiles D F → ℕ → Side → LineState
 contents_if None start t call side = states_of t.lines call side
 contents_if (Some honest) start t call side = contents_in start (honest.disk t.files.folder) t.lines call side
@@ -99,7 +100,8 @@ IsAtStart honest start folder = disk_if honest folder ≡ start
 abbrev pub CountsStay : List FileLine → List FileLine → Type 0
 CountsStay old new = (k : ℕ) → ((line_at new k).read ≡ (line_at old k).read) × ((line_at new k).written ≡ (line_at old k).written)
 
--- The file is that of a line that the program writes: it has exactly the octets that the line took, and the line took some or failed.
+-- The file is that of a line that the program writes: it has exactly the octets that the line took, and the line took
+-- some or failed.
 pub record IsWrittenFor (now : Disk) (lines : List FileLine) (f : FileIdentity) (call : ℕ) (side : Side) : Type 0 where
   pub made : IsMade side
   pub leads : now.file_of (file_name call side) ≡ Some f

@@ -38,8 +38,8 @@ pub record Changes (old new : Disk) (f : FileIdentity) (octets : List ℕ) : Typ
   pub this : new.octets f ≡ octets
   pub others : (g : FileIdentity) → g ≢ f → new.octets g ≡ old.octets g
 
--- a file was opened at its first octet: the one that the name led to, or, if one may be made, a new one. Each name that led to a file leads to
--- it still, one that led to none leads at most to a new one, and no octet changed
+-- a file was opened at its first octet: the one that the name led to, or, if one may be made, a new one. Each name that
+-- led to a file leads to it still, one that led to none leads at most to a new one, and no octet changed
 pub record OpensFile (old new : Disk) (name : List ℕ) (makes : Bool) (place : Place) : Type 0 where
   pub start : place.at ≡ 0
   pub leads : new.file_of name ≡ Some place.file
@@ -48,8 +48,8 @@ pub record OpensFile (old new : Disk) (name : List ℕ) (makes : Bool) (place : 
   pub no_others : LeadsOnToNew old new
   pub octets : KeepsOctets old new
 
--- the file that this name led to may be gone, with its octets; no other file's name or octets changed, and no name leads to a file to which it
--- didn't lead before
+-- the file that this name led to may be gone, with its octets; no other file's name or octets changed, and no name
+-- leads to a file to which it didn't lead before
 pub record RemovesFile (old new : Disk) (name : List ℕ) : Type 0 where
   pub names : (other : List ℕ) (f : FileIdentity) → old.file_of other ≡ Some f → old.file_of name ≢ Some f → new.file_of other ≡ Some f
   pub no_others : (other : List ℕ) (f : FileIdentity) → new.file_of other ≡ Some f → old.file_of other ≡ Some f

@@ -12,8 +12,8 @@ use Rattle.trau_io.specs.Texts.{side_word}
 use Rattle.trau_files.specs.declared.trunk.claims.Claim.{Claim}
 use Rattle.trau_files.specs.declared.trunk.fault.Fault.{Fault}
 use Rattle.trau_files.specs.declared.trunk.fault.Fault.TheVariants.{System}
-use Rattle.trau_files.specs.declared.trunk.seats.Access.{Access}
-use Rattle.trau_files.specs.declared.trunk.seats.Access.TheVariants.{Reading, Writing}
+use Rattle.trau_files.specs.declared.trunk.bays.Access.{Access}
+use Rattle.trau_files.specs.declared.trunk.bays.Access.TheVariants.{Reading, Writing}
 use Rattle.trau_files.specs.Folder.{Operations}
 use Rattle.trau_files.specs.Tries.{GivesOnce, TakesOnce}
 
@@ -77,7 +77,8 @@ FileAfter o result file = MatchResult result (λ n. IsSomeAnd file (IsMovedBy o 
 abbrev pub FailsToGive : {D F : Type 0} → Operations D F → D → F → Fault → List ℕ → Type 0
 FailsToGive {F = F} does folder old fault buf = (new : F) × (e : Error) × (fault ≡ System e) × GivesOnce does folder old new (Err e) buf
 
--- the write to an open file failed with this fault, which is the file's own; it took the folder from `before` to `after`
+-- the write to an open file failed with this fault, which is the file's own; it took the folder from `before` to
+-- `after`
 abbrev pub FailsToTake : {D F : Type 0} → Operations D F → D → D → F → Fault → List ℕ → Type 0
 FailsToTake {F = F} does before after old fault bytes = (new : F) × (e : Error) × (fault ≡ System e) × TakesOnce does before after old new (Err e) bytes
 
@@ -86,49 +87,50 @@ abbrev pub FileGives : {D F : Type 0} → Operations D F → D → OpenLine F �
 FileGives does folder o file result buf =
     MatchResult result (λ n. IsSomeAnd file (λ now. GivesOnce does folder o.file now.file (Ok n) buf)) (λ fault. FailsToGive does folder o.file fault buf)
 
--- the write to an open file gave this result, which is the file's own, and took the folder from `before` to `after`; a file that failed is closed
+-- the write to an open file gave this result, which is the file's own, and took the folder from `before` to `after`; a
+-- file that failed is closed
 abbrev pub FileTakes : {D F : Type 0} → Operations D F → D → D → OpenLine F → Option (OpenLine F) → Result ℕ Fault → List ℕ → Type 0
 FileTakes does before after o file result bytes =
     MatchResult result (λ n. IsSomeAnd file (λ now. TakesOnce does before after o.file now.file (Ok n) bytes))
     (λ fault. FailsToTake does before after o.file fault bytes)
 
--- How a line's file is opened: to read it, or to write it, where a missing file may be made. No opening empties a file, since another line
--- may have it.
+-- How a line's file is opened: to read it, or to write it, where a missing file may be made. No opening empties a file,
+-- since another line may have it.
 abbrev pub options_for : Access → Bool → OpenOptions
 options_for Reading makes = record new_options { read = true }
 options_for Writing makes = record new_options { write = true; create = makes }
 
--- the open file in this seat, if there is one
-abbrev pub in_seat : {F : Type 0} → List (Option (OpenLine F)) → ℕ → Option (OpenLine F)
-in_seat seats k = slice_index_or seats k None
+-- the open file in this bay, if there is one
+abbrev pub in_bay : {F : Type 0} → List (Option (OpenLine F)) → ℕ → Option (OpenLine F)
+in_bay bays k = slice_index_or bays k None
 
 -- the open file of this line, or None if it has none
-pub record IsFileOf {F : Type 0} (seats : List (Option (OpenLine F))) (call : ℕ) (side : Side) (file : Option (OpenLine F)) : Type 0 where
-  pub only : (k : ℕ) (o : OpenLine F) → in_seat seats k ≡ Some o → o.call ≡ call → o.side ≡ side → file ≡ Some o
-  pub there : IfSome file (λ o. (k : ℕ) × (in_seat seats k ≡ Some o))
+pub record IsFileOf {F : Type 0} (bays : List (Option (OpenLine F))) (call : ℕ) (side : Side) (file : Option (OpenLine F)) : Type 0 where
+  pub only : (k : ℕ) (o : OpenLine F) → in_bay bays k ≡ Some o → o.call ≡ call → o.side ≡ side → file ≡ Some o
+  pub there : IfSome file (λ o. (k : ℕ) × (in_bay bays k ≡ Some o))
 
--- nothing was opened: each seat has the file that it had, or none
+-- nothing was opened: each bay has the file that it had, or none
 abbrev pub OnlyCloses : {F : Type 0} → List (Option (OpenLine F)) → List (Option (OpenLine F)) → Type 0
-OnlyCloses old new = (k : ℕ) → (in_seat new k ≡ in_seat old k) ⊎ (in_seat new k ≡ None)
+OnlyCloses old new = (k : ℕ) → (in_bay new k ≡ in_bay old k) ⊎ (in_bay new k ≡ None)
 
--- each seat but this one has the file that it had, or none as before
+-- each bay but this one has the file that it had, or none as before
 abbrev pub OthersSit : {F : Type 0} → List (Option (OpenLine F)) → List (Option (OpenLine F)) → ℕ → Type 0
-OthersSit old new seat = (k : ℕ) → k ≢ seat → in_seat new k ≡ in_seat old k
+OthersSit old new bay = (k : ℕ) → k ≢ bay → in_bay new k ≡ in_bay old k
 
 -- this line now has this open file, or none; no file of another line was opened
 pub record OpenAfter {F : Type 0} (old new : List (Option (OpenLine F))) (call : ℕ) (side : Side) (file : Option (OpenLine F)) : Type 0 where
   pub this : IsFileOf new call side file
-  pub others : (k : ℕ) → (in_seat new k ≡ in_seat old k) ⊎ (in_seat new k ≡ None) ⊎ (in_seat new k ≡ file)
+  pub others : (k : ℕ) → (in_bay new k ≡ in_bay old k) ⊎ (in_bay new k ≡ None) ⊎ (in_bay new k ≡ file)
   pub number : length new ≡ length old
 
--- a line's file is in the seat that the line's entry names
-abbrev pub AreSeated : {F : Type 0} → List (Option (OpenLine F)) → List ℕ → Type 0
-AreSeated {F = F} seats seat_of = (k : ℕ) (o : OpenLine F) → in_seat seats k ≡ Some o → slice_index_or seat_of (index_of_line o.call o.side) 0 ≡ k
+-- a line's file is in the bay that the line's entry names
+abbrev pub AreBayed : {F : Type 0} → List (Option (OpenLine F)) → List ℕ → Type 0
+AreBayed {F = F} bays bay_of = (k : ℕ) (o : OpenLine F) → in_bay bays k ≡ Some o → slice_index_or bay_of (index_of_line o.call o.side) 0 ≡ k
 
--- the open files, each in a seat; which line has which file; the seat of the next file that is opened, and the last one that is given; and
--- the folder
+-- the open files, each in a bay; which line has which file; the bay of the next file that is opened, and the last one
+-- that is given; and the folder
 pub record OpenFiles (D F : Type 0) : Type 0 where
-  pub seats : List (Option (OpenLine F))
+  pub bays : List (Option (OpenLine F))
   pub claims : List (Option Claim)
   pub next : ℕ
   pub last : ℕ

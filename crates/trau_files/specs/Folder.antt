@@ -1,5 +1,5 @@
--- The folder of the lines' files, by its operations (this project's profile). Each relation is abstract: only the operation itself gives
--- it. So a clause that has one says that this operation was made, with this result.
+-- The folder of the lines' files, by its operations (this project's profile). Each relation is abstract: only the
+-- operation itself gives it. So a clause that has one says that this operation was made, with this result.
 use Rattle.std.specs.Prelude.{ℕ, List, Option, Result}
 use Rattle.std.specs.Io.{ReadsAtMost, WritesAtMost}
 use Rattle.std.specs.Io.KnownBytes.{ReadConsumes, WriteAppends}
@@ -26,9 +26,11 @@ pub record Operations (D F : Type 0) : Type 1 where
   pub entry_described : D → List ℕ → Result Metadata Error → Type 0
   -- going to this octet took an open file from the first state to the second
   pub went : F → F → ℕ → Result ℕ Error → Type 0
-  -- one read of an open file of the folder in this state took the file from the first state to the second, with this result and this buffer
+  -- one read of an open file of the folder in this state took the file from the first state to the second, with this
+  -- result and this buffer
   pub gave : D → F → F → Result ℕ Error → List ℕ → Type 0
-  -- one write of these octets took the folder from the first state to the second, and the open file from the third to the fourth
+  -- one write of these octets took the folder from the first state to the second, and the open file from the third to
+  -- the fourth
   pub took : D → D → F → F → Result ℕ Error → List ℕ → Type 0
   -- emptying an open file took the folder from the first state to the second, and the file from the third to the fourth
   pub emptied : D → D → F → F → Result Unit Error → Type 0

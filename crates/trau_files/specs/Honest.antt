@@ -6,12 +6,13 @@ use Rattle.std.specs.declared.fs.attrs.Metadata.{Metadata}
 use Rattle.std.specs.declared.io.Error.{Error}
 use Rattle.std.specs.declared.io.ErrorKind.TheVariants.{NotFound}
 use Rattle.trau_files.specs.declared.trunk.claims.FileIdentity.{FileIdentity}
-use Rattle.trau_files.specs.declared.trunk.seats.Access.{Access}
+use Rattle.trau_files.specs.declared.trunk.bays.Access.{Access}
 use Rattle.trau_files.specs.Files.{options_for}
 use Rattle.trau_files.specs.Folder.{Operations}
 use Rattle.trau_files.specs.Disk.{Changes, Disk, GivesOctets, OpensFile, Place, RemovesFile, Stays, written_at}
 
--- an honest folder: it has files, and each operation that didn't fail did what was asked; one that failed changed no file
+-- an honest folder: it has files, and each operation that didn't fail did what was asked; one that failed changed no
+-- file
 pub record IsHonest {D F : Type 0} (does : Operations D F) : Type 0 where
   -- the folder's files, and where an open file stands
   pub disk : D → Disk

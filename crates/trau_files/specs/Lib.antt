@@ -9,7 +9,7 @@ pub mod Honest
 pub mod OnPaper
 pub mod Opening
 pub mod Recordings
-pub mod Seats
+pub mod Bays
 pub mod Streams
 pub mod Tries
 pub mod Trunk

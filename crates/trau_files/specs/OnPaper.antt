@@ -10,7 +10,8 @@ use Rattle.trau_files.specs.declared.trunk.claims.FileIdentity.{FileIdentity}
 use Rattle.trau_files.specs.Folder.{Operations}
 use Rattle.trau_files.specs.Disk.{Changes, Disk, GivesOctets, OpensFile, Place, RemovesFile, Stays, written_at}
 
--- A folder that is one, on paper: what it does is what an honest folder does, and nothing else. Its state is its files, an open file is its place
+-- A folder that is one, on paper: what it does is what an honest folder does, and nothing else. Its state is its files,
+-- an open file is its place
 pub record Sized : Type 0 where
   pub disk : Disk
   pub size : (f : FileIdentity) → length (disk.octets f) < 2 ^ 63

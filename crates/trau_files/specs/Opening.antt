@@ -1,4 +1,5 @@
--- Opening a line's file: which operations of the folder are made, in which order, and what they do (this project's profile).
+-- Opening a line's file: which operations of the folder are made, in which order, and what they do (this project's
+-- profile).
 use Rattle.std.specs.Prelude.{◌≡◌, ◌⊎◌, ℕ, ◌<◌, pos, Bool, true, false, List, Option, Some, Result, Ok, Err, IfErr, MatchResult}
 use Rattle.std.specs.Fs.{IsFile, file_type, metadata_len}
 use Rattle.std.specs.IoError.{error_kind, raw_os_error}
@@ -11,8 +12,8 @@ use Rattle.trau_files.specs.declared.trunk.claims.Claim.{Claim}
 use Rattle.trau_files.specs.declared.trunk.claims.FileIdentity.{FileIdentity}
 use Rattle.trau_files.specs.declared.trunk.fault.Fault.{Fault}
 use Rattle.trau_files.specs.declared.trunk.fault.Fault.TheVariants.{System, Shared}
-use Rattle.trau_files.specs.declared.trunk.seats.Access.{Access}
-use Rattle.trau_files.specs.declared.trunk.seats.Access.TheVariants.{Writing}
+use Rattle.trau_files.specs.declared.trunk.bays.Access.{Access}
+use Rattle.trau_files.specs.declared.trunk.bays.Access.TheVariants.{Writing}
 use Rattle.trau_files.specs.Claims.{AreApart, IsTaken, NotesFile}
 use Rattle.trau_files.specs.Files.{file_name, options_for}
 use Rattle.trau_files.specs.Folder.{Operations}
@@ -22,7 +23,8 @@ use Rattle.trau_files.specs.Recordings.{IsFree, IsRecording}
 abbrev pub IsToBeMade : Access → ℕ → Error → Type 0
 IsToBeMade access at e = (access ≡ Writing) × (at ≡ 0) × (error_kind e ≡ NotFound)
 
--- a line's file was opened by its name, as it is; or it was missing, and was opened again so that it is made, unless something else made it between
+-- a line's file was opened by its name, as it is; or it was missing, and was opened again so that it is made, unless
+-- something else made it between
 abbrev pub OpensOrMakes : {D F : Type 0} → Operations D F → D → D → ℕ → Side → Access → ℕ → Bool → Result F Error → Type 0
 OpensOrMakes does old new call side access at false result =
     does.opened old new (options_for access false) (file_name call side) result × IfErr result (λ e. IsToBeMade access at e → ⊥)
@@ -30,8 +32,8 @@ OpensOrMakes {D = D} does old new call side access at true result =
     (mid : D) × (e : Error) × does.opened old mid (options_for access false) (file_name call side) (Err e) × IsToBeMade access at e
     × does.opened mid new (options_for access true) (file_name call side) result
 
--- A file that was just opened goes to its octet; a file of a disk that is to be written from its first octet on is emptied; no other is. This
--- takes the folder from `before` to `after`, and the file from `old` to `new`.
+-- A file that was just opened goes to its octet; a file of a disk that is to be written from its first octet on is
+-- emptied; no other is. This takes the folder from `before` to `after`, and the file from `old` to `new`.
 pub record Starts {D F : Type 0} (does : Operations D F) (access : Access) (at : ℕ) (metadata : Metadata) (before after : D) (old new : F)
     (result : Result Unit Error) : Type 0 where
   pub goes : 0 < at → (after ≡ before) × ((moved : Result ℕ Error) × does.went old new at moved
@@ -45,8 +47,9 @@ pub record IsSeen {D F : Type 0} (does : Operations D F) (old new : D) (call : �
   pub opened : OpensOrMakes does old new call side access at made (Ok file)
   pub told : does.told file (Ok metadata)
 
--- a line's file was opened and has these metadata; one of a disk was noted for the line, and no other note changed; of another file no note changed.
--- No file that is written for one line is another line's; one that is to be written is no recording by another name, also if it was made now
+-- a line's file was opened and has these metadata; one of a disk was noted for the line, and no other note changed; of
+-- another file no note changed. No file that is written for one line is another line's; one that is to be written is no
+-- recording by another name, also if it was made now
 pub record IsClaimed {D F : Type 0} (does : Operations D F) (old new : D) (old_claims new_claims : List (Option Claim)) (call : ℕ) (side : Side)
     (access : Access) (at : ℕ) (file : F) (metadata : Metadata) : Type 0 where
   pub made : Bool
@@ -57,7 +60,8 @@ pub record IsClaimed {D F : Type 0} (does : Operations D F) (old new : D) (old_c
   pub apart : AreApart new_claims
   pub free : access ≡ Writing → IsFile (file_type metadata) → IsFree does new call side metadata made identity
 
--- this open file is the line's: it was opened by the line's name, noted for the line if it is on a disk, and goes on at this octet
+-- this open file is the line's: it was opened by the line's name, noted for the line if it is on a disk, and goes on at
+-- this octet
 pub record IsOpened {D F : Type 0} (does : Operations D F) (old new : D) (old_claims new_claims : List (Option Claim)) (call : ℕ) (side : Side)
     (access : Access) (at : ℕ) (file : F) : Type 0 where
   pub fresh : F
@@ -66,8 +70,8 @@ pub record IsOpened {D F : Type 0} (does : Operations D F) (old new : D) (old_cl
   pub claimed : IsClaimed does old mid old_claims new_claims call side access at fresh metadata
   pub started : Starts does access at metadata mid new fresh file (Ok tt)
 
--- an operation of the folder failed with this error; an open file was closed as that operation left it. Only if the file was to go to its
--- octet, or to be emptied, was it noted before
+-- an operation of the folder failed with this error; an open file was closed as that operation left it. Only if the
+-- file was to go to its octet, or to be emptied, was it noted before
 abbrev pub IsRefused : {D F : Type 0} → Operations D F → D → D → List (Option Claim) → List (Option Claim) → ℕ → Side → Access → ℕ → Error → Type 0
 IsRefused {D = D} {F = F} does old new old_claims new_claims call side access at e =
     ((new_claims ≡ old_claims) × (made : Bool) × OpensOrMakes does old new call side access at made (Err e))
@@ -77,8 +81,9 @@ IsRefused {D = D} {F = F} does old new old_claims new_claims call side access at
     × IsClaimed does old mid old_claims new_claims call side access at fresh metadata × Starts does access at metadata mid started fresh file (Err e)
     × does.closed started new file)
 
--- the file is one of a disk that another line has, one of the two to be written, or that is to be written and is the recording of an incoming line;
--- it is closed as it was opened, and what the name leads to is removed only if it was made now and is empty; no note changes
+-- the file is one of a disk that another line has, one of the two to be written, or that is to be written and is the
+-- recording of an incoming line; it is closed as it was opened, and what the name leads to is removed exactly if it was
+-- made now and is empty; no note changes
 pub record IsShared {D F : Type 0} (does : Operations D F) (old new : D) (old_claims new_claims : List (Option Claim)) (call : ℕ) (side : Side)
     (access : Access) (at : ℕ) (other : ℕ) : Type 0 where
   pub file : F
@@ -94,7 +99,8 @@ pub record IsShared {D F : Type 0} (does : Operations D F) (old new : D) (old_cl
       ⊎ ((access ≡ Writing) × IsRecording does other identity)
   pub without : D
   pub closed : does.closed mid without file
-  pub left : (new ≡ without) ⊎ ((made ≡ true) × (metadata_len metadata ≡ 0) × does.removed without new (file_name call side))
+  pub left : ((made ≡ true → metadata_len metadata ≡ 0 → ⊥) × (new ≡ without))
+      ⊎ ((made ≡ true) × (metadata_len metadata ≡ 0) × does.removed without new (file_name call side))
 
 -- why a line's file wasn't opened
 abbrev pub FailsToOpen : {D F : Type 0} → Operations D F → D → D → List (Option Claim) → List (Option Claim) → ℕ → Side → Access → ℕ → Fault → Type 0

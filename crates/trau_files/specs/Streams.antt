@@ -22,12 +22,14 @@ desk_of reading writing s = record {
   write_faults = s.write_faults;
 }
 
--- the result of a desk's read is that of its input, made again if it was interrupted; of an error it says only that there was one
+-- the result of a desk's read is that of its input, made again if it was interrupted; of an error it says only that
+-- there was one
 abbrev pub PassesRead : {R W : Type 0} → ReadOperation R → Streams R W → Streams R W → Result ℕ Failed → List ℕ → Type 0
 PassesRead reading old new result buf =
     MatchResult result (λ n. ReadsOnce reading old.input new.input (Ok n) buf) (λ _. (e : Error) × ReadsOnce reading old.input new.input (Err e) buf)
 
--- the result of a desk's write is that of its output, made again if it was interrupted; of an error it says only that there was one
+-- the result of a desk's write is that of its output, made again if it was interrupted; of an error it says only that
+-- there was one
 abbrev pub PassesWrite : {R W : Type 0} → WriteOperation W → Streams R W → Streams R W → Result ℕ Failed → List ℕ → Type 0
 PassesWrite writing old new result bytes =
     MatchResult result (λ n. WritesOnce writing old.output new.output (Ok n) bytes) (λ _. (e : Error) × WritesOnce writing old.output new.output (Err e) bytes)

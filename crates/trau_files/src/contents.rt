@@ -24,8 +24,9 @@ impl AtStart for Brand {
     ghost start = { record { file_of = λ name. None; octets = λ f. [] } };
 }
 
-/// All lines of a farm, each a file. If the folder is known to be an honest one, contracts know the octets of the recorded lines that
-/// are to come, and those of the others that were written. A recorded line isn't written: that fails.
+/// All lines of a farm, each a file. If the folder is known to be an honest one, contracts know the octets of the
+/// recorded lines that are to come, and those of the others that were written. A recorded line isn't written: that
+/// fails.
 #[derive(Drop)]
 pub struct Contents<D: Folder + Drop, K: AtStart> {
     trunk: FileTrunk<D>,
@@ -41,8 +42,8 @@ impl<D: Folder + Drop, K: AtStart> Model for Contents<D, K> {
 }
 
 impl<D: Folder + Drop, K: AtStart> Contents<D, K> {
-    /// All lines before their first operation. No file is touched yet. The error is the folder, if there is no memory for the tables
-    /// of the lines.
+    /// All lines before their first operation. No file is touched yet. The error is the folder, if there is no memory
+    /// for the tables of the lines.
     pub fn new(alloc: Global, folder: D) -> Result<Contents<D, K>, D>
         requires { IsAtStart D.honest K.start folder }
         ensures lines { IfOk result (λ t. contents_if D.honest K.start t ≡ first_if D.honest K.start) }

@@ -9,9 +9,9 @@ use std::io;
 use std::marker::Model;
 use trau_io::{Desk, Failed};
 
-/// A desk that reads orders from `input` and writes texts to `output`, which mustn't buffer: what it took counts as written.
-/// What is known of the two streams is known of the desk; of the standard streams nothing is. A read or a write of the desk is one of
-/// its stream, with its answer.
+/// A desk that reads orders from `input` and writes texts to `output`, which mustn't buffer: what it took counts as
+/// written. What is known of the two streams is known of the desk; of the standard streams nothing is. A read or a
+/// write of the desk is one of its stream, with its answer.
 #[derive(Drop)]
 pub struct StdDesk<R: ReadOnce + Drop, W: WriteOnce + Drop> {
     input: R,
@@ -41,6 +41,13 @@ impl<R: ReadOnce + Drop, W: WriteOnce + Drop> StdDesk<R, W> {
             read_fault: None,
             write_fault: None,
         }
+    }
+
+    /// What the orders are read from.
+    pub fn input(&self) -> &R
+        ensures { result.now ≡ self.now.input }
+    {
+        &self.input
     }
 
     /// The system's error of the last read that failed.

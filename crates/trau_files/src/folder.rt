@@ -1,10 +1,10 @@
 //! The folder of the lines' files as a trait, and the system's files as such a folder.
 //!
-//! The standard library's contracts don't say what an opening, a seek or a new length does, and let any operation fail. So each
-//! operation of a folder gives a relation that only this operation gives (`specs/Folder.antt`). Of any folder it is then proved
-//! which operations a line makes, and that their results are passed on. Writing, emptying and closing change the folder too, so that
-//! they show of a file that no clause names afterwards. For the system's files each method is one call of the standard library; that
-//! these calls do what they are asked is trusted.
+//! The standard library's contracts don't say what an opening, a seek or a new length does, and let any operation fail.
+//! So each operation of a folder gives a relation that only this operation gives (`specs/Folder.antt`). Of any folder
+//! it is then proved which operations a line makes, and that their results are passed on. Writing, emptying and closing
+//! change the folder too, so that they show of a file that no clause names afterwards. For the system's files each
+//! method is one call of the standard library; that these calls do what they are asked is trusted.
 ghost use Rattle.std.specs.Io.{ReadsAtMost, WritesAtMost};
 ghost use Rattle.std.specs.Io.KnownBytes.{ReadConsumes, WriteAppends};
 ghost use Rattle.std.specs.Prelude.{Option, None};

@@ -15,9 +15,10 @@ pub fn a_folder_is_honest()
     ensures { IsHonest on_paper }
 {}
 
-/// After any reads and writes of a trunk over an honest folder: what a line that was only read gave is how its file began at
-/// the start, a line's file that was written has the octets that the line took and no others (one that was opened to write it, but
-/// took nothing, is empty), and each file that no line has for writing has the octets that it had at the start.
+/// After any reads and writes of a trunk over an honest folder: what a line that was only read gave is how its file
+/// began at the start, a line's file that was written has the octets that the line took and no others (one that was
+/// opened to write it, but took nothing, is empty), and each file that no line has for writing has the octets that it
+/// had at the start.
 pub fn files_hold<D: Folder>()
     ensures given { (honest : IsHonest D.does) (start : Disk) (given put : ℕ → Side → List ℕ) (t : TrunkFiles D D.File) → Holds honest start given put t →
         GaveTheirFiles start t.files.claims given }

@@ -1,8 +1,8 @@
 //! Single reads and writes that are made again if a signal interrupts them.
 //!
-//! If a signal comes before a read or a write has moved an octet, the system and the standard library return `Interrupted`
-//! and don't try again. Nothing has moved then, so trying again here loses no octet. An operation that had moved some octets
-//! returns their number.
+//! If a signal comes before a read or a write has moved an octet, the system and the standard library return
+//! `Interrupted` and don't try again. Nothing has moved then, so trying again here loses no octet. An operation that
+//! had moved some octets returns their number.
 ghost use Rattle.std.specs.Prelude.{◌≡◌, ◌<◌, false, IfOk, IsTrue};
 ghost use Rattle.std.specs.Io.{ReadsAtMost, WritesAtMost};
 ghost use Rattle.trau_files.specs.Folder.{ReadOperation, WriteOperation, OneGive, OneRead, OneTake, OneWrite};
@@ -73,8 +73,8 @@ fn try_read<R: ReadOnce>(reader: &mut R, buf: &mut [u8]) -> io::Result<usize>
     unreachable!()
 }
 
-/// One write of at least one octet, made again if a signal interrupted it. A writer that takes none fails, since callers would
-/// try for ever.
+/// One write of at least one octet, made again if a signal interrupted it. A writer that takes none fails, since
+/// callers would try for ever.
 pub fn write_some<W: WriteOnce>(writer: &mut W, bytes: &[u8]) -> io::Result<usize>
     ensures some { IfOk result (λ n. 0 < n) }
     ensures bound { WritesAtMost result bytes.now }
@@ -113,8 +113,8 @@ pub fn read_file<D: Folder>(folder: &D, file: &mut D::File, buf: &mut [u8]) -> i
     unreachable!()
 }
 
-/// One write of at least one octet to an open file of a folder, made again if a signal interrupted it. A file that takes none
-/// fails, since callers would try for ever.
+/// One write of at least one octet to an open file of a folder, made again if a signal interrupted it. A file that
+/// takes none fails, since callers would try for ever.
 pub fn write_file<D: Folder>(folder: &mut D, file: &mut D::File, bytes: &[u8]) -> io::Result<usize>
     ensures some { IfOk result (λ n. 0 < n) }
     ensures bound { WritesAtMost result bytes.now }

@@ -10,13 +10,13 @@ ghost use Rattle.trau_files.specs.Files.{states_of};
 ghost use Rattle.trau_files.specs.Holds.{HoldsAtFirst, ReadsHold, WritesHold};
 ghost use Rattle.trau_files.specs.Trunk.{TrunkFiles, TrunkReads, TrunkWrites};
 
+mod bays;
 mod claims;
 mod fault;
 mod file;
 mod name;
 mod open;
 mod recordings;
-mod seats;
 
 use crate::folder::Folder;
 pub use claims::FileIdentity;
@@ -28,15 +28,15 @@ use trau_io::{Failed, LINE_INDICES, Line, Trunk, line_index};
 
 /// All lines of a farm, each a file.
 ///
-/// The first 255 files that are opened stay open, and of the others the latest; fewer if the system allows fewer. A line goes
-/// on in its open file; if it has none, its file is opened again. So there may be more lines than open files.
+/// The first 255 files that are opened stay open, and of the others the latest; fewer if the system allows fewer. A
+/// line goes on in its open file; if it has none, its file is opened again. So there may be more lines than open files.
 ///
-/// A file on a disk that is written for one line is no other line's, whatever names the two have for it: the line that comes
-/// second fails.
+/// A file on a disk that is written for one line is no other line's, whatever names the two have for it: the line that
+/// comes second fails.
 ///
-/// Contracts know how often each line failed, which files are open, at which octet each line goes on, which line has which file,
-/// and which operations of the folder each read and write makes. Over an honest folder (`specs/Honest.antt`) they know what each
-/// line's file holds.
+/// Contracts know how often each line failed, which files are open, at which octet each line goes on, which line has
+/// which file, and which operations of the folder each read and write makes. Over an honest folder
+/// (`specs/Honest.antt`) they know what each line's file holds.
 /// The reasons for faults go to standard error.
 #[derive(Drop)]
 pub struct FileTrunk<D: Folder + Drop> {
@@ -53,13 +53,13 @@ impl<D: Folder + Drop> Model for FileTrunk<D> {
 }
 
 impl<D: Folder + Drop> FileTrunk<D> {
-    /// All lines before their first operation. No file is touched yet. The error is the folder, if there is no memory for the tables
-    /// of the lines.
+    /// All lines before their first operation. No file is touched yet. The error is the folder, if there is no memory
+    /// for the tables of the lines.
     pub fn new(alloc: Global, folder: D) -> Result<FileTrunk<D>, D>
         ensures number { IfOk result (λ t. length t.lines ≡ LINE_INDICES) }
         ensures each { IfOk result (λ t. All (λ l. l ≡ record { read = 0; written = 0; faults = 0 }) t.lines) }
-        ensures seats { IfOk result (λ t. length t.files.seats ≡ 256) }
-        ensures closed { IfOk result (λ t. All (λ seat. seat ≡ None) t.files.seats) }
+        ensures bays { IfOk result (λ t. length t.files.bays ≡ 256) }
+        ensures closed { IfOk result (λ t. All (λ bay. bay ≡ None) t.files.bays) }
         ensures unclaimed { IfOk result (λ t. All (λ claim. claim ≡ None) t.files.claims) }
         ensures next { IfOk result (λ t. (t.files.next ≡ 0) × (t.files.last ≡ 255)) }
         ensures untouched { IfOk result (λ t. t.files.folder ≡ folder) }

@@ -22,7 +22,7 @@ use Rattle.farm_rounds.specs.Histories.{CallsStand}
 use Rattle.run_spec.specs.Run.{Run, done_in, periods_to, end_in, who_in, worked_to}
 use Rattle.run_spec.specs.Now.{IsSoFar}
 use Rattle.run_spec.specs.Lines.{out_line, down_octets}
-use Rattle.run_spec.proofs.SoFar.{so_far_at_first}
+use Rattle.run_spec.proofs.Periods.SoFar.{so_far_at_first}
 use Rattle.farm_run.specs.Runs.{TellsFailed, IsRunOver, is_listed}
 use Rattle.farm_run.specs.Standing.{Standing, KnowsListed, HasFlags, never_given}
 use Rattle.farm_run.proofs.Clocks.Meeting.{told_first}

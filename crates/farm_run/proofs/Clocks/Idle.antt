@@ -16,8 +16,8 @@ use Rattle.farm_rounds.specs.Histories.{CallHistory, CallStands}
 use Rattle.run_spec.specs.Run.{Run, whole_in, periods_to, who_in, law_in, IsOpened, worked_to}
 use Rattle.run_spec.specs.Now.{settings_now}
 use Rattle.run_spec.specs.Lines.{out_line, down_octets}
-use Rattle.run_spec.proofs.OpenCalls.{gone_later}
-use Rattle.run_spec.proofs.SoFar.{so_far_later}
+use Rattle.run_spec.proofs.Orders.OpenCalls.{gone_later}
+use Rattle.run_spec.proofs.Periods.SoFar.{so_far_later}
 use Rattle.farm_run.specs.Runs.{HasWritten, IsReadWhole, ReadBy}
 use Rattle.farm_run.specs.Standing.{Standing, never_given}
 use Rattle.farm_run.specs.Match.{AtClock, past_if, histories_at}

@@ -15,7 +15,7 @@ use Rattle.farm_run.specs.Resuming.{LeavesFrom}
 use Rattle.farm_run.specs.Standing.{standing, IsToCome, never_given}
 use Rattle.farm_run.proofs.Listed.Tests.{listed_head}
 use Rattle.farm_run.specs.Clock.{WrittenFrom, IsAtClock}
-use Rattle.run_spec.proofs.LongerLines.{length-periods_to}
+use Rattle.run_spec.proofs.Parts.LongerLines.{length-periods_to}
 use Rattle.farm_run.proofs.Clocks.Reach.{worked_all}
 use Rattle.farm_run.proofs.Clocks.First.{none_worked}
 

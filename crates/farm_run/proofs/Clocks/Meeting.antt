@@ -58,8 +58,8 @@ pub told_first : (fails : Bool) (before now : LineState) (octets : List ℕ) →
 told_first false before now octets e = e ∙ ap Some (sym (append-nil octets))
 told_first true before now octets e = e.1 ∙ ap (λ (u : Option (List ℕ)). Some (octets ++ unwrap_or u [])) (sym e.2)
 
--- How a round's read of at most m octets agrees with the run. `failing` says whether the line fails in the run, `rest` is what it
--- never gives, `now` the line after the read, and `t` what was read.
+-- How a round's read of at most m octets agrees with the run. `failing` says whether the line fails in the run, `rest`
+-- is what it never gives, `now` the line after the read, and `t` what was read.
 pub record Meets (m : ℕ) (rest : List ℕ) (failing : Bool) (now : LineState) (t : Taken) : Type 0 where
   -- a line that doesn't fail in the run gives all
   pub whole : failing ≡ false → rest ≡ []

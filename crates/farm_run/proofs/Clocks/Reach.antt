@@ -11,17 +11,17 @@ use Rattle.switchboard.specs.Ends.{start_of, end_of, ends_at, lack_of}
 use Rattle.trau_io.specs.declared.ends.CallEnd.{CallEnd}
 use Rattle.trau_io.specs.declared.ends.Cause.TheVariants.{Limit}
 use Rattle.switchboard.specs.State.{first_stamp}
-use Rattle.switchboard.proofs.Appending.{or_else}
+use Rattle.switchboard.proofs.Orders.OneMore.{or_else}
 use Rattle.run_spec.specs.Run.{Run, given_in, whole_in, done_in, start_in, end_in, cause_in, IsOpened, worked_to}
 use Rattle.run_spec.specs.Now.{IsSoFar, NoOrderTo, has_period}
 use Rattle.run_spec.proofs.Lists.{found}
-use Rattle.run_spec.proofs.Executing.{opened-append}
-use Rattle.run_spec.proofs.OpenCalls.{gone_is, shut_cases}
-use Rattle.switchboard.proofs.Whole.{end_by}
-use Rattle.run_spec.proofs.Settling.{start_is, closed_stamp, at_of, ends_has}
-use Rattle.run_spec.proofs.SoFar.{standing_now, standing_rest, standing_end, done-rest, rest_in, rest_above, rest_from, so_far_later}
+use Rattle.run_spec.proofs.Orders.Executed.{opened-append}
+use Rattle.run_spec.proofs.Orders.OpenCalls.{gone_is, shut_cases}
+use Rattle.switchboard.proofs.Boards.Whole.{end_by}
+use Rattle.run_spec.proofs.Periods.Settled.{start_is, closed_stamp, at_of, ends_has}
+use Rattle.run_spec.proofs.Periods.SoFar.{standing_now, standing_rest, standing_end, done-rest, rest_in, rest_above, rest_from, so_far_later}
 use Rattle.run_spec.proofs.Ending.{end_closed, end_lacks}
-use Rattle.run_spec.proofs.Going.{opened_run}
+use Rattle.run_spec.proofs.Periods.Next.{opened_run}
 use Rattle.farm_run.specs.Runs.{IsCutOff}
 use Rattle.farm_run.proofs.Rounds.Taken.{IsRound, places_in, ends_within}
 use Rattle.farm_run.proofs.Rounds.Open.{open_at, no_order, has_period_in}

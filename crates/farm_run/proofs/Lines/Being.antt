@@ -17,7 +17,7 @@ use Rattle.switchboard.specs.declared.act.Refusal.{Refusal}
 use Rattle.switchboard.specs.Calls.{Done, opened_by, is_this, opened_at, gone_at}
 use Rattle.switchboard.specs.Replies.{IsInRange, known_of, reply_to}
 use Rattle.switchboard.specs.Runs.{done_after}
-use Rattle.switchboard.proofs.Laws.{in_range}
+use Rattle.switchboard.proofs.Orders.InRange.{in_range}
 use Rattle.round_lines.specs.Rounds.{IsIncoming}
 use Rattle.run_spec.specs.Run.{Run, done_in, whole_in, IsOpened}
 use Rattle.run_spec.proofs.Lists.{each_filter}

@@ -10,7 +10,7 @@ use Rattle.round_lines.specs.Transfer.{LineGives, has_failed}
 use Rattle.run_spec.specs.Run.{Run, periods_to, who_in}
 use Rattle.run_spec.specs.Lines.{out_line, down_octets}
 use Rattle.call_leg.proofs.LineLaws.{length-out_line}
-use Rattle.run_spec.proofs.LongerLines.{length-down_octets, length-periods_to, out_more, down_on}
+use Rattle.run_spec.proofs.Parts.LongerLines.{length-down_octets, length-periods_to, out_more, down_on}
 use Rattle.farm_run.specs.Runs.{HasWritten}
 use Rattle.farm_run.specs.Fronts.{HasFront}
 
@@ -72,7 +72,8 @@ down_front r c m n fails first now l w =
     let more = down_on r c m (n - m) n (omega (arith, l)) in
     subst (HasFront fails first now) (sym more.1) (front_of fails first now (down_octets (who_in r c) (periods_to r c m)) more.0 w)
 
--- **If what the first k periods give was held back, what was written of the first m is a prefix of what any more give.**
+-- **If what the first k periods give was held back, what was written of the first m is a prefix of what any more
+-- give.**
 pub out_front_from : (r : Run) (c k m n : ℕ) (fails : Bool) (first now : LineState) → k ≤ m → m ≤ n →
     HasWritten fails first now (drop (160 * k) (out_line (who_in r c) (periods_to r c m))) →
     HasFront fails first now (drop (160 * k) (out_line (who_in r c) (periods_to r c n)))

@@ -1,4 +1,5 @@
--- For crates above: a run that left all its output stopped at its end, from its start or from a mark on (`stops_all`, `stops_all_from`).
+-- For crates above: a run that left all its output stopped at its end, from its start or from a mark on (`stops_all`,
+-- `stops_all_from`).
 -- A run that stops at a period, before its end or there.
 use Rattle.std.proofs.Common.{◌≡◌, refl, sym, ap, ◌∙◌, subst, ℕ, ◌+◌, ◌-◌, ◌*◌, ◌<◌, ◌≤◌, Bool, true, false, Option, Some, None, List, [], length, take, drop}
 use Rattle.std.proofs.Common.{inl, inr, arith}
@@ -18,13 +19,13 @@ use Rattle.round_lines.specs.Rounds.{IsIncoming}
 use Rattle.switchboard.specs.Calls.{opened_at, closed_at}
 use Rattle.switchboard.specs.Ends.{start_of, lack_of}
 use Rattle.switchboard.specs.State.{State, EndBefore, gone_in, end_told}
-use Rattle.switchboard.proofs.Whole.{end_by}
+use Rattle.switchboard.proofs.Boards.Whole.{end_by}
 use Rattle.run_spec.specs.Run.{Run, given_in, whole_in, done_in, end_in, periods_to, IsOpened, cause_in, worked_to}
 use Rattle.run_spec.specs.Lines.{out_of_call, down_of_call}
 use Rattle.run_spec.specs.Now.{IsSoFar}
-use Rattle.run_spec.proofs.Going.{opened_run}
-use Rattle.run_spec.proofs.LongerLines.{length-periods_to}
-use Rattle.run_spec.proofs.SoFar.{so_far_at_first}
+use Rattle.run_spec.proofs.Periods.Next.{opened_run}
+use Rattle.run_spec.proofs.Parts.LongerLines.{length-periods_to}
+use Rattle.run_spec.proofs.Periods.SoFar.{so_far_at_first}
 use Rattle.farm_run.specs.Runs.{HasWritten, IsCutOff, IsReadTo, IsReadWhole, Leaves, OnlyOpenedFail, FailedBy, FailedShort, is_listed}
 use Rattle.farm_run.specs.Fronts.{StopsAt}
 use Rattle.farm_run.specs.Resuming.{LeavesFrom, StopsFrom}

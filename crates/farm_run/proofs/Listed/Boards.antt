@@ -12,8 +12,8 @@ use Rattle.switchboard.specs.declared.act.Act.TheVariants as act
 use Rattle.switchboard.specs.Calls.{Done, opened_at, closed_at}
 use Rattle.switchboard.specs.State.{State, gone_in, after_turn, told_more}
 use Rattle.switchboard.specs.Open.{opened_now, open_now, partner_now, Finds}
-use Rattle.switchboard.proofs.Appending.{or_else}
-use Rattle.run_spec.proofs.Executing.{opened-append, closed-append}
+use Rattle.switchboard.proofs.Orders.OneMore.{or_else}
+use Rattle.run_spec.proofs.Orders.Executed.{opened-append, closed-append}
 use Rattle.farm_rounds.specs.Failed.{NoneListed}
 use Rattle.farm_run.specs.Runs.{is_listed}
 use Rattle.farm_run.specs.Standing.{is_over, KnowsListed}

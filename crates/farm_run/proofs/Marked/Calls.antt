@@ -26,9 +26,9 @@ use Rattle.run_spec.specs.Lines.{out_line, down_octets}
 use Rattle.run_spec.specs.Facts.{calls_in}
 use Rattle.run_spec.specs.Mark.{is_limit, mark_call, marked_calls}
 use Rattle.run_spec.specs.Now.{NoOrderTo}
-use Rattle.run_spec.proofs.Settling.{start_is}
-use Rattle.run_spec.proofs.SoFar.{standing_now}
-use Rattle.run_spec.proofs.OpenCalls.{shut_cases, gone_is}
+use Rattle.run_spec.proofs.Periods.Settled.{start_is}
+use Rattle.run_spec.proofs.Periods.SoFar.{standing_now}
+use Rattle.run_spec.proofs.Orders.OpenCalls.{shut_cases, gone_is}
 use Rattle.run_spec.proofs.Ending.{all_done, end_closed, end_lacks, end_limit}
 use Rattle.farm_run.specs.declared.stage.Stage.{Stage}
 use Rattle.farm_run.specs.Marking.{entry_of}

@@ -254,7 +254,8 @@ module _ (os : List Order) (pace : Pace) (mark : MarkView) (o : Outgoing) (s m :
         cut_written os pace.batch (max mark.period pace.periods) first now u gone_on within mark
         (let later = h.later in omega (arith, later, e)) (λ r run. sym (same ∙ entries ∙ at_mark r run)) wrote_on
 
-    -- **A resumed run that came to its last period leaves and reports what the run of the definition gives behind the mark.**
+    -- **A resumed run that came to its last period leaves and reports what the run of the definition gives behind the
+    -- mark.**
     pub resumes_told : mark.calls ≡ calls → u.clock ≡ max mark.period pace.periods → (count : ℕ) →
         count ≡ length os → (report : ReportView) →
         report.failed ≡ u.farm.failed →

@@ -5,7 +5,7 @@ use Rattle.switchboard.specs.declared.table.Bridge.{Bridge}
 use Rattle.switchboard.specs.Calls.{Done}
 use Rattle.switchboard.specs.Bridges.{joins, no_bridge}
 use Rattle.switchboard.specs.Stands.{IsLatest}
-use Rattle.switchboard.proofs.Appending.{after}
+use Rattle.switchboard.proofs.Orders.OneMore.{after}
 use Rattle.farm_run.specs.declared.notes.SentBefore.{SentBefore}
 use Rattle.farm_run.specs.Noted.{sent_before, AreNotes}
 

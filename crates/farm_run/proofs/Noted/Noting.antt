@@ -4,7 +4,7 @@ use Rattle.switchboard.specs.declared.table.Bridge.{Bridge}
 use Rattle.switchboard.specs.Calls.{Done}
 use Rattle.switchboard.specs.Bridges.{bridges}
 use Rattle.switchboard.specs.Stands.{IsLatest}
-use Rattle.switchboard.proofs.Appending.{after}
+use Rattle.switchboard.proofs.Orders.OneMore.{after}
 use Rattle.farm_rounds.specs.declared.tally.Tally.{Tally}
 use Rattle.run_spec.specs.Run.{Run}
 use Rattle.farm_run.specs.declared.notes.SentBefore.{SentBefore}

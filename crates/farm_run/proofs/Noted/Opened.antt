@@ -4,7 +4,7 @@ use Rattle.std.specs.Prelude.{◌==◌}
 use Rattle.std.proofs.lemmas.Bool.{cases_eq, ne_eqb}
 use Rattle.switchboard.specs.Calls.{Done}
 use Rattle.switchboard.specs.Bridges.{bridges}
-use Rattle.switchboard.proofs.Appending.{after}
+use Rattle.switchboard.proofs.Orders.OneMore.{after}
 use Rattle.farm_rounds.specs.declared.tally.Tally.{Tally}
 use Rattle.call_number.specs.CallNumber.{IsCallNumber}
 use Rattle.run_spec.specs.Run.{Run}

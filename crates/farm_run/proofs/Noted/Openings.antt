@@ -7,7 +7,7 @@ use Rattle.trau_orders.specs.Lists.{AreOrders}
 use Rattle.switchboard.specs.Calls.{Done, opened_at}
 use Rattle.switchboard.specs.Ends.{start_of}
 use Rattle.switchboard.specs.State.{State, last_stamp, orders_of}
-use Rattle.run_spec.proofs.Settling.{found_stamp}
+use Rattle.run_spec.proofs.Periods.Settled.{found_stamp}
 use Rattle.farm_run.specs.Stages.{OpenedBefore}
 
 -- before the first order no call was opened

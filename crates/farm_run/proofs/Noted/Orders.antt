@@ -15,7 +15,7 @@ use Rattle.switchboard.specs.Bridges.{bridges, bridge_by}
 use Rattle.switchboard.specs.Ends.{start_of}
 use Rattle.switchboard.specs.State.{State, done_by}
 use Rattle.switchboard.specs.Open.{opened_now, open_now, partner_now, Finds, opened_after, open_after}
-use Rattle.switchboard.proofs.Appending.{after, bridges-more, or_else}
+use Rattle.switchboard.proofs.Orders.OneMore.{after, bridges-more, or_else}
 use Rattle.farm_rounds.specs.Calls.{Kept}
 use Rattle.farm_rounds.specs.declared.tally.Tally.{Tally}
 use Rattle.farm_rounds.specs.Memory.{tally_in}
@@ -33,12 +33,12 @@ use Rattle.trau_io.specs.declared.ends.CallEnd.{CallEnd}
 use Rattle.trau_io.specs.declared.ends.Cause.TheVariants.{Closed}
 use Rattle.switchboard.specs.Runs.{IsRun}
 use Rattle.switchboard.specs.Stands.{IsLatest}
-use Rattle.switchboard.proofs.Steps.{closed-more}
+use Rattle.switchboard.proofs.Orders.Steps.{closed-more}
 use Rattle.call_leg.specs.Places.{sent_now}
-use Rattle.run_spec.proofs.Settling.{start_is}
-use Rattle.run_spec.proofs.OpenCalls.{open_facts}
+use Rattle.run_spec.proofs.Periods.Settled.{start_is}
+use Rattle.run_spec.proofs.Orders.OpenCalls.{open_facts}
 use Rattle.run_spec.proofs.Ending.{end_closed}
-use Rattle.run_spec.proofs.Sent.{sent_at_bridge}
+use Rattle.run_spec.proofs.Frames.Sent.{sent_at_bridge}
 use Rattle.farm_run.specs.Facts.{kept_in}
 use Rattle.farm_run.proofs.Told.Next.{eqb-sym}
 use Rattle.farm_run.proofs.Noted.Bridging.{noted_bridged}

@@ -18,11 +18,11 @@ use Rattle.farm_rounds.specs.Memory.{tally_in}
 use Rattle.farm_rounds.specs.Histories.{tally_of}
 use Rattle.run_spec.specs.Run.{Run, given_in, whole_in, done_in, periods_to}
 use Rattle.run_spec.specs.Now.{IsSoFar, settings_now}
-use Rattle.run_spec.proofs.SoFar.{so_far_later}
-use Rattle.run_spec.proofs.Settling.{start_is}
-use Rattle.run_spec.proofs.OpenCalls.{open_facts}
-use Rattle.run_spec.proofs.Going.{start_run}
-use Rattle.run_spec.proofs.Sent.{sent_at_end}
+use Rattle.run_spec.proofs.Periods.SoFar.{so_far_later}
+use Rattle.run_spec.proofs.Periods.Settled.{start_is}
+use Rattle.run_spec.proofs.Orders.OpenCalls.{open_facts}
+use Rattle.run_spec.proofs.Periods.Next.{start_run}
+use Rattle.run_spec.proofs.Frames.Sent.{sent_at_end}
 use Rattle.farm_run.specs.declared.notes.SentBefore.{SentBefore}
 use Rattle.farm_run.proofs.Rounds.Taken.{IsRound, places_in, ends_within}
 use Rattle.farm_run.proofs.Rounds.Outcome.{KeepsTallies}

@@ -14,8 +14,8 @@ use Rattle.switchboard.specs.Runs.{TellsEnds}
 use Rattle.switchboard.specs.State.{State, gone_in, first_stamp, orders_of, due, done_by, after_turn, reply_of}
 use Rattle.switchboard.specs.Stands.{AreRising}
 use Rattle.switchboard.specs.Open.{open_now}
-use Rattle.switchboard.proofs.Laws.{left_rising}
-use Rattle.run_spec.proofs.OpenCalls.{closed_kept, gone_is, gone_kept, opened_cases}
+use Rattle.switchboard.proofs.Orders.InRange.{left_rising}
+use Rattle.run_spec.proofs.Orders.OpenCalls.{closed_kept, gone_is, gone_kept, opened_cases}
 
 -- an order was due, and this is its reply
 pub record Due (s : State) (t : ℕ) (reply : Reply) (n : State) : Type 0 where

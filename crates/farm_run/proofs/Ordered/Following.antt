@@ -19,12 +19,12 @@ use Rattle.call_leg.specs.Periods.{CallPeriod}
 use Rattle.call_leg.specs.Settings.{Settings, new_settings}
 use Rattle.run_spec.specs.Run.{Run, whole_in, periods_to, law_in}
 use Rattle.run_spec.specs.Now.{IsSoFar, settings_now, changed_by}
-use Rattle.run_spec.proofs.OpenCalls.{open_facts, opened_cases}
-use Rattle.run_spec.proofs.Settling.{start_is}
-use Rattle.run_spec.proofs.Showing.{opens}
-use Rattle.run_spec.proofs.SoFar.{so_far_more}
-use Rattle.run_spec.proofs.Acting.{settings_ordered}
-use Rattle.run_spec.proofs.Going.{none_waits, law_run}
+use Rattle.run_spec.proofs.Orders.OpenCalls.{open_facts, opened_cases}
+use Rattle.run_spec.proofs.Periods.Settled.{start_is}
+use Rattle.run_spec.proofs.Orders.Shown.{opens}
+use Rattle.run_spec.proofs.Periods.SoFar.{so_far_more}
+use Rattle.run_spec.proofs.Orders.Settings.{settings_ordered}
+use Rattle.run_spec.proofs.Periods.Next.{none_waits, law_run}
 use Rattle.farm_run.specs.Match.{past_if, histories_at, FollowsRun}
 use Rattle.farm_run.proofs.Ordered.Due.{Due, open_told, tells_more}
 use Rattle.farm_run.proofs.Ordered.Changing.{history_by}

@@ -15,16 +15,16 @@ use Rattle.switchboard.specs.State.{State, end_or_told, end_so_far}
 use Rattle.switchboard.specs.Runs.{AllEnded}
 use Rattle.call_number.specs.CallNumber.{IsCallNumber, call_numbers}
 use Rattle.switchboard.specs.Ends.{end_of, start_of, whole_end, span_of, spans_of}
-use Rattle.switchboard.proofs.Steps.{cons_same}
-use Rattle.switchboard.proofs.Whole.{end_by}
+use Rattle.switchboard.proofs.Orders.Steps.{cons_same}
+use Rattle.switchboard.proofs.Boards.Whole.{end_by}
 use Rattle.farm_report.specs.declared.report.CallLine.{CallLine}
 use Rattle.farm_rounds.specs.declared.tally.Tally.{Tally}
 use Rattle.run_spec.specs.Run.{Run, given_in, whole_in, done_in, spans_in}
 use Rattle.run_spec.specs.Facts as defined
 use Rattle.run_spec.specs.Facts.{opened_calls, sent_by}
 use Rattle.run_spec.specs.Now.{IsSoFar}
-use Rattle.run_spec.proofs.SoFar.{standing_now}
-use Rattle.run_spec.proofs.Standing.{IsSoundBridge}
+use Rattle.run_spec.proofs.Periods.SoFar.{standing_now}
+use Rattle.run_spec.proofs.Bridges.Standing.{IsSoundBridge}
 use Rattle.farm_run.specs.declared.notes.SentBefore.{SentBefore}
 use Rattle.farm_run.specs.Facts.{span_lines, call_line}
 use Rattle.farm_run.specs.Noted.{no_span, is_opened, AreNotes, IsNoted}

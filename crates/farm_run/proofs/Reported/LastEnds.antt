@@ -14,7 +14,7 @@ use Rattle.switchboard.specs.State.{State, end_told, replies_from}
 use Rattle.switchboard.specs.Runs.{AllEnded}
 use Rattle.switchboard.specs.Ends.{end_of, start_of, whole_end, spans_of}
 use Rattle.switchboard.specs.Open.{open_now}
-use Rattle.switchboard.proofs.Whole.{all_ended_at}
+use Rattle.switchboard.proofs.Boards.Whole.{all_ended_at}
 use Rattle.farm_report.specs.declared.report.CallLine.{CallLine}
 use Rattle.farm_report.specs.declared.report.SpanLine.{SpanLine}
 use Rattle.farm_report.specs.View.{ReportView}
@@ -26,8 +26,8 @@ use Rattle.run_spec.specs.Run.{Run, given_in, whole_in, done_in, periods_to, law
 use Rattle.run_spec.specs.Facts.{report_of, call_line, opened_calls}
 use Rattle.run_spec.specs.Now.{IsSoFar, settings_now}
 use Rattle.run_spec.proofs.Lists.{each_map}
-use Rattle.run_spec.proofs.SoFar.{standing_now}
-use Rattle.run_spec.proofs.Going.{start_run}
+use Rattle.run_spec.proofs.Periods.SoFar.{standing_now}
+use Rattle.run_spec.proofs.Periods.Next.{start_run}
 use Rattle.run_spec.proofs.Ending.{end_limit, all_done, report_end}
 use Rattle.farm_run.specs.Match.{past_if, histories_at}
 use Rattle.farm_run.specs.declared.notes.SentBefore.{SentBefore}

@@ -1,4 +1,5 @@
--- The rows of the bridges, from the last one back: what a call sent in a bridge is what its next bridge notes, or what it has sent so far.
+-- The rows of the bridges, from the last one back: what a call sent in a bridge is what its next bridge notes, or what
+-- it has sent so far.
 use Rattle.std.proofs.Common.{◌≡◌, ◌≢◌, refl, sym, ap, ◌∙◌, subst, ℕ, ◌<◌, Bool, true, false, Some, List, [], ◌∷◌, ◌++◌, length, map, reverse}
 use Rattle.std.proofs.Common.{get_or, set, inl, inr, ◌⊎◌, arith}
 use Rattle.std.specs.Prelude.{◌==◌, if◌then◌else◌}

@@ -14,10 +14,10 @@ use Rattle.round_lines.specs.Memory.{LinesMemory, end_in_round}
 use Rattle.round_lines.specs.Shifts.{with_periods}
 use Rattle.round_lines.proofs.Shifting.{lack_shifts}
 use Rattle.run_spec.specs.Run.{Run, given_in, whole_in, done_in}
-use Rattle.run_spec.proofs.Settling.{at_of}
-use Rattle.run_spec.proofs.SoFar.{standing_now}
+use Rattle.run_spec.proofs.Periods.Settled.{at_of}
+use Rattle.run_spec.proofs.Periods.SoFar.{standing_now}
 use Rattle.run_spec.proofs.Ending.{end_lacks}
-use Rattle.run_spec.proofs.Going.{start_run}
+use Rattle.run_spec.proofs.Periods.Next.{start_run}
 use Rattle.farm_run.specs.Runs.{IsCutOff}
 use Rattle.farm_run.proofs.Rounds.Taken.{IsRound, IsTaken, places_in, ends_within}
 use Rattle.farm_run.proofs.Rounds.Open.{IsOpenAt, open_at, no_order}
@@ -133,7 +133,7 @@ with_behind k g l =
     given_with : ℕ → ℕ → Given
     given_with up pcm = record { up = up; pcm = pcm; up_failed = g.up_failed; pcm_failed = g.pcm_failed }
 
--- what a seat took of its call's lines is cut out of them
+-- what a portion took of its call's lines is cut out of them
 cut_of : (r : Run) (ds : List Done) (t n c : ℕ) (p : LinesMemory) (up pcm : List ℕ) → IsTaken r ds t n c p up pcm →
     IsCut n (behind (t - start_of ds c) (given_in r c)) (round_lines.given_in p)
 cut_of r ds t n c p up pcm h = record { up = h.up_count; pcm = h.pcm_count; up_failed = h.up_failed; pcm_failed = h.pcm_failed }

@@ -14,7 +14,7 @@ use Rattle.run_spec.specs.Run.{Run, whole_in, periods_to, who_in}
 use Rattle.run_spec.specs.Lines.{out_line, down_octets}
 use Rattle.farm_run.proofs.Rounds.Taken.{IsRound, IsFed, IsTaken}
 use Rattle.farm_run.proofs.Rounds.Ends.{whole_taken}
-use Rattle.run_spec.proofs.LongerLines.{length-periods_to}
+use Rattle.run_spec.proofs.Parts.LongerLines.{length-periods_to}
 use Rattle.farm_run.proofs.Rounds.Octets.{out_of_periods, down_of_periods}
 
 -- ---- what was taken is what the places have

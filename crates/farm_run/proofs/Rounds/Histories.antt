@@ -14,9 +14,9 @@ use Rattle.call_pair.specs.Periods.{up_at, pcm_at}
 use Rattle.call_pair.specs.History.{period_at, alone_periods}
 use Rattle.run_spec.specs.Run.{Run, whole_in, up_in, pcm_in, ups_to, item_of, periods_to}
 use Rattle.run_spec.specs.Now.{bridge_now, handed_now, period_now, settings_now, settings_in}
-use Rattle.run_spec.proofs.SoFar.{standing_now}
-use Rattle.run_spec.proofs.Bridging.{bridge_after, same_settings, next_settings}
-use Rattle.run_spec.proofs.Going.{period_by, periods_more}
+use Rattle.run_spec.proofs.Periods.SoFar.{standing_now}
+use Rattle.run_spec.proofs.Bridges.Later.{bridge_after, same_settings, next_settings}
+use Rattle.run_spec.proofs.Periods.Next.{period_by, periods_more}
 use Rattle.farm_run.proofs.Rounds.Taken.{IsRound, IsFed, start_at, places_in}
 use Rattle.farm_run.proofs.Rounds.Open.{IsOpenAt, open_at, no_order, bridge_at_place}
 

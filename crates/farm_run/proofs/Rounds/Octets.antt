@@ -9,7 +9,7 @@ use Rattle.call_leg.specs.Down.{down_now}
 use Rattle.call_pair.specs.History.{outs_of, downs_of}
 use Rattle.run_spec.specs.Run.{Run, periods_to, who_in}
 use Rattle.run_spec.specs.Lines.{out_line, down_octets}
-use Rattle.run_spec.proofs.LongerLines.{down_more}
+use Rattle.run_spec.proofs.Parts.LongerLines.{down_more}
 
 -- **The Out line is that of the earlier periods, and behind it the octets of the newest w.**
 pub out_line-more : (who : Who) (w : ℕ) (ts : List CallPeriod) → out_line who ts ≡ out_line who (drop w ts) ++ outs_of who w ts

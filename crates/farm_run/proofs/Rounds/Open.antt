@@ -11,11 +11,11 @@ use Rattle.switchboard.specs.State.{first_stamp}
 use Rattle.run_spec.specs.Run.{Run, whole_in}
 use Rattle.run_spec.specs.Now.{NoOrderTo, has_period, bridge_now}
 use Rattle.run_spec.proofs.Lists.{each_all, found}
-use Rattle.run_spec.proofs.Standing.{Standing, lasts_parts}
-use Rattle.run_spec.proofs.OpenCalls.{open_facts, gone_is, gone_later}
-use Rattle.run_spec.proofs.Settling.{start_is}
-use Rattle.run_spec.proofs.SoFar.{standing_now}
-use Rattle.run_spec.proofs.Bridging.{open_has, bridge_later, bridge_after}
+use Rattle.run_spec.proofs.Bridges.Standing.{Standing, lasts_parts}
+use Rattle.run_spec.proofs.Orders.OpenCalls.{open_facts, gone_is, gone_later}
+use Rattle.run_spec.proofs.Periods.Settled.{start_is}
+use Rattle.run_spec.proofs.Periods.SoFar.{standing_now}
+use Rattle.run_spec.proofs.Bridges.Later.{open_has, bridge_later, bridge_after}
 use Rattle.farm_run.proofs.Rounds.Taken.{IsRound, places_in}
 
 -- ---- an open call

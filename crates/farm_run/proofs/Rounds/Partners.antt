@@ -16,9 +16,9 @@ use Rattle.call_pair.specs.Periods.{up_at}
 use Rattle.call_pair.specs.History.{period_at, handed_at, bridged_periods, settings_past}
 use Rattle.run_spec.specs.Run.{Run, whole_in, up_in, ups_to, item_of, periods_to}
 use Rattle.run_spec.specs.Now.{handed_now, settings_now}
-use Rattle.run_spec.proofs.SoFar.{standing_now}
-use Rattle.run_spec.proofs.Bridging.{bridge_each, joins_other}
-use Rattle.run_spec.proofs.Going.{ups_periods, item_ups}
+use Rattle.run_spec.proofs.Periods.SoFar.{standing_now}
+use Rattle.run_spec.proofs.Bridges.Later.{bridge_each, joins_other}
+use Rattle.run_spec.proofs.Periods.Next.{ups_periods, item_ups}
 use Rattle.farm_run.proofs.Rounds.Taken.{IsRound, IsFed, start_at, places_in}
 use Rattle.farm_run.proofs.Rounds.Open.{IsOpenAt, open_at, bridge_open, bridge_at_place, bridge_after_round}
 use Rattle.farm_run.proofs.Rounds.Histories.{bridge_kept, settings_kept, but_for_bridge, place_more}

@@ -1,5 +1,5 @@
--- A round of n periods, from the clock t on: how far each call comes in it, and what the round takes of the call's lines. `ds` are
--- the orders that were executed so far, the oldest first, and `left` the others.
+-- A round of n periods, from the clock t on: how far each call comes in it, and what the round takes of the call's
+-- lines. `ds` are the orders that were executed so far, the oldest first, and `left` the others.
 use Rattle.std.proofs.Common.{◌≡◌, ℕ, ◌+◌, ◌-◌, ◌*◌, ◌<◌, ◌≤◌, Bool, true, List, length, take, drop}
 use Rattle.std.specs.Prelude.{min, ◌==◌, IfSome, ◌&&◌, nat_lt}
 use Rattle.std.specs.List.{list_any}
@@ -11,7 +11,7 @@ use Rattle.call_pair.specs.Memory.{IoMemory}
 use Rattle.call_pair.specs.Periods.{up_at, pcm_at}
 use Rattle.call_pair.specs.History.{Start}
 use Rattle.round_lines.specs.Memory.{LinesMemory}
-use Rattle.round_lines.specs.Seats.{SeatMemory}
+use Rattle.round_lines.specs.Portions.{PortionMemory}
 use Rattle.run_spec.specs.Run.{Run, whole_in, up_in, pcm_in, periods_to, law_in}
 use Rattle.run_spec.specs.Now.{IsSoFar, settings_now}
 
@@ -54,11 +54,11 @@ pub record IsTaken (r : Run) (ds : List Done) (t n c : ℕ) (p : LinesMemory) (u
   pub up_octets : let l = r.lines c in take p.up.count up ≡ take p.up.count (drop (40 * (t - start_of ds c)) l.up)
   pub pcm_octets : let l = r.lines c in take p.pcm.count pcm ≡ take p.pcm.count (drop (160 * (t - start_of ds c)) l.pcm)
 
--- a seat in the round: its call is open at the clock, and its lines gave what they could
-pub record IsSeat (r : Run) (ds : List Done) (t n : ℕ) (s : SeatMemory) : Type 0 where
+-- a portion in the round: its call is open at the clock, and its lines gave what they could
+pub record IsPortion (r : Run) (ds : List Done) (t n : ℕ) (s : PortionMemory) : Type 0 where
   pub open_now : is_open (gone_at (whole_in r) t ds) ds s.lines.call ≡ true
   pub taken : IsTaken r ds t n s.lines.call s.lines s.up s.pcm
 
--- a call has one of these seats
-abbrev pub has_seat : ℕ → List SeatMemory → Bool
-has_seat c seats = list_any (λ s. c == s.lines.call) seats
+-- a call has one of these portions
+abbrev pub has_portion : ℕ → List PortionMemory → Bool
+has_portion c portions = list_any (λ s. c == s.lines.call) portions

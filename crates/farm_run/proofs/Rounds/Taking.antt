@@ -12,7 +12,7 @@ use Rattle.round_lines.specs.Transfer.{Takes}
 use Rattle.round_lines.specs.Memory as round_lines
 use Rattle.round_lines.specs.Memory.{LinesMemory, fails_in}
 use Rattle.round_lines.specs.Rounds.{IsIncoming}
-use Rattle.round_lines.specs.Seats.{SeatMemory, Fills}
+use Rattle.round_lines.specs.Portions.{PortionMemory, Fills}
 use Rattle.run_spec.specs.Run.{Run}
 use Rattle.farm_run.specs.Standing.{Standing, StandingGoesOn, IsToCome, never_given}
 use Rattle.farm_run.proofs.Rounds.Giving.{gave, GaveBlock}
@@ -41,14 +41,14 @@ given m c s k line was now t block behind last i h long told on here listed ends
     (subst (λ (l : LineState). Meets m (never_given (last.listed c s) (last.lines c s)) (last.listed c s) l t) here met)
 
 -- What a round took of an open call's lines, and what is to come of them.
-pub record IsMet (r : Run) (ds : List Done) (t n c : ℕ) (now : Side → LineState) (x : SeatMemory) (last : Standing) : Type 0 where
+pub record IsMet (r : Run) (ds : List Done) (t n c : ℕ) (now : Side → LineState) (x : PortionMemory) (last : Standing) : Type 0 where
   pub taken : IsTaken r ds t n c x.lines x.up x.pcm
   pub up_left : IsToCome (now Up) (40 * (t - start_of ds c) + 40 * n) (r.lines c).up (never_given (last.listed c Up) (last.lines c Up))
   pub pcm_left : IsToCome (now Pcm) (160 * (t - start_of ds c) + 160 * n) (r.lines c).pcm
       (never_given (last.listed c Pcm) (last.lines c Pcm))
 
 -- **What a round took of an open call's lines is what the run says, whether a line fails in it, later or never.**
-pub met : (r : Run) (ds : List Done) (t n c : ℕ) (before now : Side → LineState) (s x : SeatMemory) (behind last : Standing) →
+pub met : (r : Run) (ds : List Done) (t n c : ℕ) (before now : Side → LineState) (s x : PortionMemory) (behind last : Standing) →
     Fills before now s x → x.lines.call ≡ c → x.lines.periods ≡ n → length x.up ≡ 40 * n → length x.pcm ≡ 160 * n →
     StandingGoesOn behind last → (r.lines c).up_failed ≡ last.listed c Up → (r.lines c).pcm_failed ≡ last.listed c Pcm →
     ((side : Side) → IsIncoming side → behind.listed c side ≡ fails_in x.lines side) →

@@ -8,12 +8,12 @@ use Rattle.trau_io.specs.declared.ends.CallEnd.{CallEnd}
 use Rattle.trau_orders.specs.declared.order.Order.{Order}
 use Rattle.switchboard.specs.Calls.{Done, opened_at, closed_at, gone_at}
 use Rattle.switchboard.specs.State.{State, EndBefore, told_in, told_more, orders_of}
-use Rattle.switchboard.proofs.Laws.{before_more}
+use Rattle.switchboard.proofs.Orders.InRange.{before_more}
 use Rattle.run_spec.specs.Run.{Run, whole_in}
 use Rattle.run_spec.specs.Now.{IsSoFar}
-use Rattle.run_spec.proofs.Settling.{start_is}
-use Rattle.run_spec.proofs.OpenCalls.{open_from, gone_is}
-use Rattle.run_spec.proofs.SoFar.{so_far_later}
+use Rattle.run_spec.proofs.Periods.Settled.{start_is}
+use Rattle.run_spec.proofs.Orders.OpenCalls.{open_from, gone_is}
+use Rattle.run_spec.proofs.Periods.SoFar.{so_far_later}
 use Rattle.farm_run.proofs.Rounds.Taken.{IsRound, places_in, ends_within}
 use Rattle.farm_run.specs.Ending.{told_after}
 

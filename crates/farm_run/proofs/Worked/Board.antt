@@ -28,9 +28,9 @@ use Rattle.farm_run.specs.Clock.{IsAtClock}
 use Rattle.farm_run.proofs.Rounds.Open.{open_after, shut_after}
 use Rattle.farm_run.proofs.Rounds.Ends.{end_within}
 use Rattle.farm_run.proofs.Told.Boards.{told_done, gone_round}
-use Rattle.farm_run.proofs.Told.Seats.{each_end, told_seats}
+use Rattle.farm_run.proofs.Told.Portions.{each_end, told_portions}
 use Rattle.farm_run.proofs.Worked.Round.{WorkedRound, MeetsRun}
-use Rattle.farm_run.proofs.Worked.Calls.{all_seats, all_have_seats, ends_filled, goes_on_is}
+use Rattle.farm_run.proofs.Worked.Calls.{all_portions, all_have_portions, ends_filled, goes_on_is}
 use Rattle.farm_run.proofs.Worked.Past.{IsPast, worked_past}
 use Rattle.farm_run.specs.Ending.{told_after, is_told}
 
@@ -42,7 +42,7 @@ module _ (r : Run) (t n : ℕ) (b : State) (farm after : FarmMemory) (first befo
     (w : WorkedRound t n farm after before now ends) (h : IsRound r t n b.done b.left)
     (m : Matches b farm.calls) (b' : State) (last : Standing)
     (at : IsAtClock r t b farm.calls last first before)
-    (meets : MeetsRun r n w.filled_seats (standing b' after.failed now) last) (told : b' ≡ told_after b ends)
+    (meets : MeetsRun r n w.filled_portions (standing b' after.failed now) last) (told : b' ≡ told_after b ends)
     (open_then : (c : ℕ) → open_now b' c ≡ (open_now b c && not (is_told c ends))) where
   -- whether a call is open at the clock
   abbrev pub alive : ℕ → Bool
@@ -54,7 +54,7 @@ module _ (r : Run) (t n : ℕ) (b : State) (farm after : FarmMemory) (first befo
 
   -- what each call has had at the round's end, those that end in it too
   abbrev worked_at_end : ℕ → Option CallHistory
-  worked_at_end = worked_histories w.filled_seats (partner_in farm.calls) hs
+  worked_at_end = worked_histories w.filled_portions (partner_in farm.calls) hs
 
   -- what is known of the latter
   abbrev Past : ℕ → CallHistory → Type 0
@@ -64,7 +64,7 @@ module _ (r : Run) (t n : ℕ) (b : State) (farm after : FarmMemory) (first befo
   past c o = worked_past r t n b farm after first before now ends w h m b' last at meets c o
 
   -- a call goes on where its lines give all periods of the round
-  goes : (c : ℕ) → alive c ≡ true → goes_on_call w.worked_seats c ≡ (places_in r b.done t n c == n)
+  goes : (c : ℕ) → alive c ≡ true → goes_on_call w.worked_portions c ≡ (places_in r b.done t n c == n)
   goes c o = goes_on_is r t n b farm after first before now ends w h m b' last at meets c o
 
   -- ---- the board and the farm
@@ -73,8 +73,8 @@ module _ (r : Run) (t n : ℕ) (b : State) (farm after : FarmMemory) (first befo
   pub told_is : (c : ℕ) → is_told c ends ≡ ends_within r b.done t n c
   told_is c =
       ap (is_told c) (ends_filled r t n b farm after first before now ends w h m b' last at meets)
-      ∙ told_seats r t n b.done b.left w.filled_seats h (all_seats r t n b farm after first before now ends w h m b' last at meets)
-      (all_have_seats r t n b farm after first before now ends w h m b' last at meets) c
+      ∙ told_portions r t n b.done b.left w.filled_portions h (all_portions r t n b farm after first before now ends w h m b' last at meets)
+      (all_have_portions r t n b farm after first before now ends w h m b' last at meets) c
 
   -- each is the run's end of its call
   pub ends_are : AllByRecursion (λ e. (ends_within r b.done t n e.call ≡ true)
@@ -83,8 +83,8 @@ module _ (r : Run) (t n : ℕ) (b : State) (farm after : FarmMemory) (first befo
       subst (AllByRecursion (λ e. (ends_within r b.done t n e.call ≡ true) × (e ≡ end_of (given_in r) r.periods (done_in r) e.call (start_of b.done e.call))))
       (sym (ends_filled r t n b farm after first before now ends w h m b' last at meets))
       (each_end (λ e. (ends_within r b.done t n e.call ≡ true) × (e ≡ end_of (given_in r) r.periods (done_in r) e.call (start_of b.done e.call))) r t n
-      b.done b.left w.filled_seats h
-      (all_seats r t n b farm after first before now ends w h m b' last at meets) right)
+      b.done b.left w.filled_portions h
+      (all_portions r t n b farm after first before now ends w h m b' last at meets) right)
     where
       right : (c : ℕ) → ends_within r b.done t n c ≡ true → let e = end_of (given_in r) r.periods (done_in r) c (start_of b.done c) in
           (ends_within r b.done t n e.call ≡ true) × (e ≡ end_of (given_in r) r.periods (done_in r) e.call (start_of b.done e.call))
@@ -120,7 +120,7 @@ module _ (r : Run) (t n : ℕ) (b : State) (farm after : FarmMemory) (first befo
       by true true false true g g' e h1 h2 h3 h4 k = cc
 
   -- **What each open call has had behind the round.**
-  pub histories_after : (c : ℕ) → those_that (goes_on_call w.worked_seats) worked_at_end c ≡ histories_at r b.done (t + n) c
+  pub histories_after : (c : ℕ) → those_that (goes_on_call w.worked_portions) worked_at_end c ≡ histories_at r b.done (t + n) c
   histories_after c = by (alive c) refl
     where
       none : Option CallHistory
@@ -141,17 +141,17 @@ module _ (r : Run) (t n : ℕ) (b : State) (farm after : FarmMemory) (first befo
           (p.periods ∙ ap (λ (k : ℕ). periods_to r c (t + k - start_of b.done c)) f)
           ∙ ap (λ (s : Settings). Some (record { law = law_in r c; periods = periods_to r c (t + n - start_of b.done c); now = s })) (p.goes_on f)
 
-      by : (x : Bool) → alive c ≡ x → those_that (goes_on_call w.worked_seats) worked_at_end c ≡ histories_at r b.done (t + n) c
+      by : (x : Bool) → alive c ≡ x → those_that (goes_on_call w.worked_portions) worked_at_end c ≡ histories_at r b.done (t + n) c
       by false o =
-          ap (λ (y : Option CallHistory). if goes_on_call w.worked_seats c then y else None)
-          (ap (λ (x : Bool). option_map (history_with w.filled_seats hs c (partner_in farm.calls c))
+          ap (λ (y : Option CallHistory). if goes_on_call w.worked_portions c then y else None)
+          (ap (λ (x : Bool). option_map (history_with w.filled_portions hs c (partner_in farm.calls c))
           (past_if x (law_in r c) (periods_to r c (t - start_of b.done c)) (settings_now r b.done t c))) o)
-          ∙ none_if (goes_on_call w.worked_seats c)
+          ∙ none_if (goes_on_call w.worked_portions c)
           ∙ sym (ap (λ (x : Bool). past_if x (law_in r c) (periods_to r c (t + n - start_of b.done c)) (settings_now r b.done (t + n) c))
           (shut_after r t n b.done c o))
       by true o =
           let p = past c o in
-          ap (λ (y : Option CallHistory). if goes_on_call w.worked_seats c then y else None) p.1
+          ap (λ (y : Option CallHistory). if goes_on_call w.worked_portions c then y else None) p.1
           ∙ ap (λ (x : Bool). if x then Some p.0 else None) (goes c o)
           ∙ all (places_in r b.done t n c == n) refl p.0 p.2
           ∙ sym (ap (λ (x : Bool). past_if x (law_in r c) (periods_to r c (t + n - start_of b.done c)) (settings_now r b.done (t + n) c))

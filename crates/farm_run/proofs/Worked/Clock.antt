@@ -11,8 +11,8 @@ use Rattle.trau_io.specs.declared.line.Side.{Side}
 use Rattle.trau_io.specs.Lines.{LineState}
 use Rattle.round_lines.specs.Memory as round_lines
 use Rattle.round_lines.specs.Memory.{LinesMemory}
-use Rattle.round_lines.specs.Seats.{SeatMemory}
-use Rattle.round_lines.specs.Rounds.{seat_at, call_at, seat_end, no_seat}
+use Rattle.round_lines.specs.Portions.{PortionMemory}
+use Rattle.round_lines.specs.Rounds.{portion_at, call_at, portion_end, no_portion}
 use Rattle.switchboard.specs.Ends.{lack_of}
 use Rattle.switchboard.specs.State.{State, first_stamp, last_stamp}
 use Rattle.switchboard.specs.Open.{open_now, partner_now, ArePairs}
@@ -24,9 +24,9 @@ use Rattle.run_spec.proofs.Lists.{each_weaker}
 use Rattle.farm_run.specs.Ending.{AreOpen, AreApart, AreLate, has_left, partner_past, told_after, is_told}
 use Rattle.farm_run.specs.Match.{AtClock}
 use Rattle.farm_run.proofs.Told.Ends.{clock_round}
-use Rattle.farm_run.proofs.Told.Seats.{seats_apart}
+use Rattle.farm_run.proofs.Told.Portions.{portions_apart}
 use Rattle.farm_run.proofs.Told.Lacking.{each_told, told_goes, has_call}
-use Rattle.farm_run.proofs.Listed.Counts.{seat_cases}
+use Rattle.farm_run.proofs.Listed.Counts.{portion_cases}
 use Rattle.farm_run.proofs.Worked.Round.{WorkedRound, FilledRound, front_facts, up_long, filled_periods, worked_call}
 use Rattle.farm_run.proofs.Worked.Facts.{front, worked_at}
 
@@ -38,10 +38,10 @@ pub record IsRight (t n : ℕ) (b : State) (e : CallEnd) : Type 0 where
   pub open_now : open_now b e.call ≡ true
 
 module _ (t n : ℕ) (b : State) (farm : FarmMemory) (before between : ℕ → Side → LineState)
-    (planned filled worked : List SeatMemory) (ends : List CallEnd)
+    (planned filled worked : List PortionMemory) (ends : List CallEnd)
     (w : FilledRound t n farm before between planned filled worked ends) (a : AtClock t b farm.calls) where
-  -- no seat has more whole periods than the round
-  few : (k c : ℕ) → k < length farm.live → slice_index farm.live k ≡ c → round_lines.whole_in (seat_at worked k).lines ≤ n
+  -- no portion has more whole periods than the round
+  few : (k c : ℕ) → k < length farm.live → slice_index farm.live k ≡ c → round_lines.whole_in (portion_at worked k).lines ≤ n
   few k c l e =
       let f = front_facts t n farm before between planned filled worked ends w k c l e in
       let place = ap round_lines.whole_in f.2.lines in
@@ -49,12 +49,12 @@ module _ (t n : ℕ) (b : State) (farm : FarmMemory) (before between : ℕ → S
       let long = up_long _ _ _ _ _ _ _ _ f.2 in
       omega (arith, place, up, long)
 
-  -- an end that a seat tells is right
-  seat_right : (k : ℕ) → k < length worked → IfSome (seat_end t (seat_at worked k)) (IsRight t n b)
-  seat_right k l = by (round_lines.whole_in s.lines == s.lines.periods) refl
+  -- an end that a portion tells is right
+  portion_right : (k : ℕ) → k < length worked → IfSome (portion_end t (portion_at worked k)) (IsRight t n b)
+  portion_right k l = by (round_lines.whole_in s.lines == s.lines.periods) refl
     where
-      s : SeatMemory
-      s = seat_at worked k
+      s : PortionMemory
+      s = portion_at worked k
 
       within : k < length farm.live
       within = omega (arith, l, w.worked_number, w.filled_number, w.number)
@@ -88,7 +88,7 @@ module _ (t n : ℕ) (b : State) (farm : FarmMemory) (before between : ℕ → S
 
   -- each end that is told is right
   pub ends_right : AllByRecursion (IsRight t n b) ends
-  ends_right = subst (AllByRecursion (IsRight t n b)) (sym w.told) (each_told (IsRight t n b) t worked seat_right)
+  ends_right = subst (AllByRecursion (IsRight t n b)) (sym w.told) (each_told (IsRight t n b) t worked portion_right)
 
   -- **The call of each of these ends is open.**
   pub tells_open : AreOpen b ends
@@ -97,7 +97,7 @@ module _ (t n : ℕ) (b : State) (farm : FarmMemory) (before between : ℕ → S
 
   -- no two of these ends are of one call
   pub tells_apart : AreApart ends
-  tells_apart = subst AreApart (sym w.told) (seats_apart t worked w.worked_rising)
+  tells_apart = subst AreApart (sym w.told) (portions_apart t worked w.worked_rising)
 
   -- none of these ends lies below the stamp of an executed order
   pub tells_late : AreLate b ends
@@ -109,25 +109,25 @@ module _ (t n : ℕ) (b : State) (farm after : FarmMemory) (before now : ℕ →
   -- ---- who is open after it
 
   -- **Of an open call the end is told exactly where it doesn't go on.**
-  pub told_is : (c : ℕ) → is_some (call_in farm.calls c) ≡ true → is_told c ends ≡ not (goes_on_call w.worked_seats c)
-  told_is c o = ap (is_told c) w.told ∙ told_goes t w.worked_seats w.worked_rising c (by (seat_cases t n farm after before now ends w c))
+  pub told_is : (c : ℕ) → is_some (call_in farm.calls c) ≡ true → is_told c ends ≡ not (goes_on_call w.worked_portions c)
+  told_is c o = ap (is_told c) w.told ∙ told_goes t w.worked_portions w.worked_rising c (by (portion_cases t n farm after before now ends w c))
     where
       by : ((k : ℕ) × (k < length farm.live) × (slice_index farm.live k ≡ c))
-          ⊎ (is_some (call_in farm.calls c) ≡ false) → has_call w.worked_seats c ≡ true
-      by (inl p) = list_any_at (λ s. s.lines.call == c) w.worked_seats p.0 no_seat (omega (arith, p.1, w.worked_number, w.filled_number, w.number))
-          (eq-eqb (call_at w.worked_seats p.0) c (worked_at t n farm after before now ends w p.0 p.1 ∙ p.2))
+          ⊎ (is_some (call_in farm.calls c) ≡ false) → has_call w.worked_portions c ≡ true
+      by (inl p) = list_any_at (λ s. s.lines.call == c) w.worked_portions p.0 no_portion (omega (arith, p.1, w.worked_number, w.filled_number, w.number))
+          (eq-eqb (call_at w.worked_portions p.0) c (worked_at t n farm after before now ends w p.0 p.1 ∙ p.2))
       by (inr q) = cc
 
   -- the farm keeps the calls whose ends weren't told
   calls_left : (c : ℕ) → is_some (call_in after.calls c) ≡ (is_some (call_in farm.calls c) && not (is_told c ends))
-  calls_left c = w.is_open c ∙ ap (λ (x : Bool). x && goes_on_call w.worked_seats c) (w.live c) ∙ by (is_some (call_in farm.calls c)) refl
+  calls_left c = w.is_open c ∙ ap (λ (x : Bool). x && goes_on_call w.worked_portions c) (w.live c) ∙ by (is_some (call_in farm.calls c)) refl
     where
       twice : (g : Bool) → g ≡ not (not g)
       twice true = refl
       twice false = refl
 
-      by : (x : Bool) → is_some (call_in farm.calls c) ≡ x → (x && goes_on_call w.worked_seats c) ≡ (x && not (is_told c ends))
-      by true q = twice (goes_on_call w.worked_seats c) ∙ sym (ap not (told_is c q))
+      by : (x : Bool) → is_some (call_in farm.calls c) ≡ x → (x && goes_on_call w.worked_portions c) ≡ (x && not (is_told c ends))
+      by true q = twice (goes_on_call w.worked_portions c) ∙ sym (ap not (told_is c q))
       by false q = refl
 
   -- the farm keeps those partners that both go on
@@ -152,16 +152,16 @@ module _ (t n : ℕ) (b : State) (farm after : FarmMemory) (before now : ℕ →
       both p true false false false e f = cc
       both p false k false v e f = cc
 
-      live : (d : ℕ) → open_now b d ≡ true → is_told d ends ≡ not (goes_on_call w.worked_seats d)
+      live : (d : ℕ) → open_now b d ≡ true → is_told d ends ≡ not (goes_on_call w.worked_portions d)
       live d o = told_is d (a.matches.is_open d ∙ o)
 
       by : (q : Option ℕ) → partner_in farm.calls c ≡ q →
-          (if goes_on_call w.worked_seats c then that_stays (goes_on_call w.worked_seats) q
+          (if goes_on_call w.worked_portions c then that_stays (goes_on_call w.worked_portions) q
           else None) ≡ (if is_told c ends || has_left q ends then None else q)
-      by None e = empty (goes_on_call w.worked_seats c) ∙ sym (empty (is_told c ends || false))
+      by None e = empty (goes_on_call w.worked_portions c) ∙ sym (empty (is_told c ends || false))
       by (Some p) e =
           let o = pairs.both_open c p (sym (a.matches.partner c) ∙ e) in
-          both p (goes_on_call w.worked_seats c) (goes_on_call w.worked_seats p) (is_told c ends) (is_told p ends) (live c o.0) (live p o.1)
+          both p (goes_on_call w.worked_portions c) (goes_on_call w.worked_portions p) (is_told c ends) (is_told p ends) (live c o.0) (live p o.1)
 
   -- **After the round the board and the farm stand at the clock behind it.**
   pub clock_after : (b' : State) → ArePairs (open_now b) (partner_now b) →
@@ -172,5 +172,5 @@ module _ (t n : ℕ) (b : State) (farm after : FarmMemory) (before now : ℕ →
   clock_after b' pairs clear told o p =
       clock_round t n b b' farm.calls after.calls ends a
       (each_weaker (IsRight t n b) (λ e. e.at < t + n) ends (λ e q. q.before)
-      (ends_right t n b farm before w.between w.planned_seats w.filled_seats w.worked_seats ends (front t n farm after before now ends w) a)) clear told o p
+      (ends_right t n b farm before w.between w.planned_portions w.filled_portions w.worked_portions ends (front t n farm after before now ends w) a)) clear told o p
       calls_left (partners_left pairs)

@@ -1,27 +1,27 @@
--- What a round of the farm makes of each open call's seat, and of the lines.
+-- What a round of the farm makes of each open call's portion, and of the lines.
 use Rattle.std.proofs.Common.{◌≡◌, refl, sym, ap, ◌∙◌, subst, ℕ, ◌<◌, true, false, Some, List, length, arith}
 use Rattle.std.specs.Prelude.{is_some, slice_index}
 use Rattle.trau_io.specs.declared.ends.CallEnd.{CallEnd}
 use Rattle.trau_io.specs.declared.line.Side.{Side}
 use Rattle.trau_io.specs.declared.line.Side.TheVariants.{Up, Pcm, Down, Out}
 use Rattle.trau_io.specs.Lines.{LineState}
-use Rattle.round_lines.specs.Seats.{SeatMemory, Drains}
-use Rattle.round_lines.specs.Rounds.{IsIncoming, IsOutgoing, seat_at, call_at}
+use Rattle.round_lines.specs.Portions.{PortionMemory, Drains}
+use Rattle.round_lines.specs.Rounds.{IsIncoming, IsOutgoing, portion_at, call_at}
 use Rattle.farm_rounds.specs.Calls.{Call, call_in}
 use Rattle.farm_rounds.specs.Memory.{FarmMemory}
-use Rattle.farm_rounds.proofs.Rising.{there}
+use Rattle.farm_rounds.proofs.Places.Rising.{there}
 use Rattle.farm_run.specs.Outgoing.{Settles}
 use Rattle.farm_run.proofs.Lines.Sides.{not_both}
-use Rattle.farm_run.proofs.Worked.Round.{WorkedRound, FilledRound, SeatFacts, worked_call, front_facts}
+use Rattle.farm_run.proofs.Worked.Round.{WorkedRound, FilledRound, PortionFacts, worked_call, front_facts}
 
 module _ (t n : ℕ) (farm after : FarmMemory) (before now : ℕ → Side → LineState)
     (ends : List CallEnd) (w : WorkedRound t n farm after before now ends) where
   -- the round up to its work
-  pub front : FilledRound t n farm before w.between w.planned_seats w.filled_seats w.worked_seats ends
+  pub front : FilledRound t n farm before w.between w.planned_portions w.filled_portions w.worked_portions ends
   front = record {
     live = w.live;
     number = w.number;
-    seats = w.seats;
+    portions = w.portions;
     fills = w.fills;
     filled_number = w.filled_number;
     worked_number = w.worked_number;
@@ -30,39 +30,39 @@ module _ (t n : ℕ) (farm after : FarmMemory) (before now : ℕ → Side → Li
     told = w.told;
   }
 
-  -- **Each open call has a seat, of which this is known.**
-  pub seat_facts : (k c : ℕ) → k < length farm.live → slice_index farm.live k ≡ c →
+  -- **Each open call has a portion, of which this is known.**
+  pub portion_facts : (k c : ℕ) → k < length farm.live → slice_index farm.live k ≡ c →
       (x : Call) × (call_in farm.calls c ≡ Some x)
-      × SeatFacts n (before c) (w.between c) (now c) c x (seat_at w.planned_seats k)
-      (seat_at w.filled_seats k) (seat_at w.worked_seats k) (seat_at w.drained_seats k)
-  seat_facts k c l e =
-      let f = front_facts t n farm before w.between w.planned_seats w.filled_seats w.worked_seats ends front k c l e in
-      let called : call_at w.worked_seats k ≡ c = worked_call _ _ _ _ _ _ _ _ f.2 in (
+      × PortionFacts n (before c) (w.between c) (now c) c x (portion_at w.planned_portions k)
+      (portion_at w.filled_portions k) (portion_at w.worked_portions k) (portion_at w.drained_portions k)
+  portion_facts k c l e =
+      let f = front_facts t n farm before w.between w.planned_portions w.filled_portions w.worked_portions ends front k c l e in
+      let called : call_at w.worked_portions k ≡ c = worked_call _ _ _ _ _ _ _ _ f.2 in (
         f.0,
         f.1,
         record {
           front = f.2;
-          drains = subst (λ d. Settles (w.between d) (now d) (seat_at w.worked_seats k) (seat_at w.drained_seats k)) called
+          drains = subst (λ d. Settles (w.between d) (now d) (portion_at w.worked_portions k) (portion_at w.drained_portions k)) called
               (w.drains k (omega (arith, w.number, w.filled_number, w.worked_number)));
         },
       )
 
   -- where the round's octets are written, its call's lines are given them
   pub writes_at : (k c : ℕ) → k < length farm.live → slice_index farm.live k ≡ c → w.held ≡ false →
-      Drains (w.between c) (now c) (seat_at w.worked_seats k) (seat_at w.drained_seats k)
+      Drains (w.between c) (now c) (portion_at w.worked_portions k) (portion_at w.drained_portions k)
   writes_at k c l e q =
-      let f = seat_facts k c l e in
-      let called : call_at w.worked_seats k ≡ c = worked_call _ _ _ _ _ _ _ _ f.2.front in
-      subst (λ d. Drains (w.between d) (now d) (seat_at w.worked_seats k) (seat_at w.drained_seats k)) called
+      let f = portion_facts k c l e in
+      let called : call_at w.worked_portions k ≡ c = worked_call _ _ _ _ _ _ _ _ f.2.front in
+      subst (λ d. Drains (w.between d) (now d) (portion_at w.worked_portions k) (portion_at w.drained_portions k)) called
       (w.writes q k (omega (arith, l, w.number, w.filled_number, w.worked_number)))
 
-  -- the seats stand in the order of the open calls, behind the work
-  pub worked_at : (k : ℕ) → k < length farm.live → call_at w.worked_seats k ≡ slice_index farm.live k
-  worked_at k l = let f = seat_facts k (slice_index farm.live k) l refl in worked_call _ _ _ _ _ _ _ _ f.2.front
+  -- the portions stand in the order of the open calls, behind the work
+  pub worked_at : (k : ℕ) → k < length farm.live → call_at w.worked_portions k ≡ slice_index farm.live k
+  worked_at k l = let f = portion_facts k (slice_index farm.live k) l refl in worked_call _ _ _ _ _ _ _ _ f.2.front
 
-  -- the planned seats stand in the order of the open calls
-  pub planned_at : (k : ℕ) → k < length farm.live → call_at w.planned_seats k ≡ slice_index farm.live k
-  planned_at k l = let f = seat_facts k (slice_index farm.live k) l refl in ap (λ (s : SeatMemory). s.lines.call) f.2.front.made
+  -- the planned portions stand in the order of the open calls
+  pub planned_at : (k : ℕ) → k < length farm.live → call_at w.planned_portions k ≡ slice_index farm.live k
+  planned_at k l = let f = portion_facts k (slice_index farm.live k) l refl in ap (λ (s : PortionMemory). s.lines.call) f.2.front.made
 
   -- ---- the lines
 

@@ -20,7 +20,7 @@ use Rattle.farm_rounds.specs.Working.{goes_on_call}
 use Rattle.farm_rounds.specs.RoundHistories.{worked_histories, those_that}
 use Rattle.run_spec.specs.Run.{Run, given_in, whole_in, done_in, end_in, IsOpened, cause_in, worked_to}
 use Rattle.run_spec.specs.Now.{IsSoFar}
-use Rattle.run_spec.proofs.SoFar.{standing_now}
+use Rattle.run_spec.proofs.Periods.SoFar.{standing_now}
 use Rattle.farm_run.proofs.Rounds.Taken.{IsRound, places_in, ends_within}
 use Rattle.farm_run.specs.Runs.{IsCutOff, IsReadWhole}
 use Rattle.farm_run.specs.Match.{Matches, histories_at}
@@ -32,7 +32,7 @@ use Rattle.farm_run.proofs.Rounds.Ends.{end_within, start_kept, not_by_lines}
 use Rattle.farm_run.proofs.Told.Boards.{told_done, told_left, round_over}
 use Rattle.farm_run.proofs.Clocks.Reach.{end_after, worked_then}
 use Rattle.farm_run.proofs.Worked.Round.{WorkedRound, MeetsRun}
-use Rattle.farm_run.proofs.Worked.Calls.{OpenSeat, open_seat, opened_is}
+use Rattle.farm_run.proofs.Worked.Calls.{OpenPortion, open_portion, opened_is}
 use Rattle.farm_run.proofs.Worked.Board as worked_board
 use Rattle.farm_run.proofs.Worked.Written as worked_written
 use Rattle.farm_run.specs.Ending.{told_after, is_told}
@@ -45,18 +45,18 @@ module _ (r : Run) (t n : ℕ) (b : State) (farm after : FarmMemory) (first befo
     (w : WorkedRound t n farm after before now ends) (h : IsRound r t n b.done b.left)
     (m : Matches b farm.calls) (b' : State) (last : Standing)
     (at : IsAtClock r t b farm.calls last first before)
-    (meets : MeetsRun r n w.filled_seats (standing b' after.failed now) last) (told : b' ≡ told_after b ends)
+    (meets : MeetsRun r n w.filled_portions (standing b' after.failed now) last) (told : b' ≡ told_after b ends)
     (open_then : (c : ℕ) → open_now b' c ≡ (open_now b c && not (is_told c ends))) where
   -- whether a call is open at the clock
   abbrev pub alive : ℕ → Bool
   alive = is_open (gone_at (whole_in r) t b.done) b.done
 
-  -- what is known of its seat
-  abbrev pub Seat : ℕ → Type 0
-  Seat c = OpenSeat r t n b farm after first before now ends w h m b' last at meets c
+  -- what is known of its portion
+  abbrev pub Portion : ℕ → Type 0
+  Portion c = OpenPortion r t n b farm after first before now ends w h m b' last at meets c
 
-  abbrev pub seat : (c : ℕ) → alive c ≡ true → Seat c
-  seat c o = open_seat r t n b farm after first before now ends w h m b' last at meets c o
+  abbrev pub portion : (c : ℕ) → alive c ≡ true → Portion c
+  portion c o = open_portion r t n b farm after first before now ends w h m b' last at meets c o
 
   -- what each call has had before the round
   abbrev hs : ℕ → Option CallHistory
@@ -64,7 +64,7 @@ module _ (r : Run) (t n : ℕ) (b : State) (farm after : FarmMemory) (first befo
 
   -- what each call has had at the round's end, those that end in it too
   abbrev worked_at_end : ℕ → Option CallHistory
-  worked_at_end = worked_histories w.filled_seats (partner_in farm.calls) hs
+  worked_at_end = worked_histories w.filled_portions (partner_in farm.calls) hs
 
   -- a call that isn't open has no period in the round, and its lines stay
   idle : (c : ℕ) → IsOpened r c → alive c ≡ false → worked_to r (t + n) c ≡ worked_to r t c
@@ -77,7 +77,7 @@ module _ (r : Run) (t n : ℕ) (b : State) (farm after : FarmMemory) (first befo
   tells_after : TellsEnds (whole_in r) (t + n) b'
   tells_after = worked_board.tells_after r t n b farm after first before now ends w h m b' last at meets told open_then
 
-  histories_after : (c : ℕ) → those_that (goes_on_call w.worked_seats) worked_at_end c ≡ histories_at r b.done (t + n) c
+  histories_after : (c : ℕ) → those_that (goes_on_call w.worked_portions) worked_at_end c ≡ histories_at r b.done (t + n) c
   histories_after = worked_board.histories_after r t n b farm after first before now ends w h m b' last at meets told open_then
 
   -- a call whose incoming lines are read whole has all periods of the round
@@ -123,7 +123,7 @@ module _ (r : Run) (t n : ℕ) (b : State) (farm after : FarmMemory) (first befo
       up_read : (c : ℕ) → IsOpened r c → IsReadWhole r (t + n) c → IsToCome (now c Up) (40 * worked_to r (t + n) c) (r.lines c).up
           (never_given (last.listed c Up) (last.lines c Up))
       up_read c i q = elim (cases_Bool (alive c)) [
-        | inl o ↦ (seat c o).up_left ∙ ap (λ (k : ℕ). Some (drop k (r.lines c).up ++ never_given (last.listed c Up) (last.lines c Up))) (sym (read_to c 40 o q))
+        | inl o ↦ (portion c o).up_left ∙ ap (λ (k : ℕ). Some (drop k (r.lines c).up ++ never_given (last.listed c Up) (last.lines c Up))) (sym (read_to c 40 o q))
         | inr o ↦ ap (λ (l : LineState). l.to_come) (kept c o Up) ∙ at.lines.up_read c i (earlier c q)
             ∙ ap (λ (k : ℕ). Some (drop (40 * k) (r.lines c).up ++ never_given (last.listed c Up) (last.lines c Up))) (sym (idle c i o))
       ]
@@ -131,7 +131,7 @@ module _ (r : Run) (t n : ℕ) (b : State) (farm after : FarmMemory) (first befo
       pcm_read : (c : ℕ) → IsOpened r c → IsReadWhole r (t + n) c → IsToCome (now c Pcm) (160 * worked_to r (t + n) c) (r.lines c).pcm
           (never_given (last.listed c Pcm) (last.lines c Pcm))
       pcm_read c i q = elim (cases_Bool (alive c)) [
-        | inl o ↦ (seat c o).pcm_left ∙ ap (λ (k : ℕ). Some (drop k (r.lines c).pcm ++ never_given (last.listed c Pcm) (last.lines c Pcm)))
+        | inl o ↦ (portion c o).pcm_left ∙ ap (λ (k : ℕ). Some (drop k (r.lines c).pcm ++ never_given (last.listed c Pcm) (last.lines c Pcm)))
             (sym (read_to c 160 o q))
         | inr o ↦ ap (λ (l : LineState). l.to_come) (kept c o Pcm) ∙ at.lines.pcm_read c i (earlier c q)
             ∙ ap (λ (k : ℕ). Some (drop (160 * k) (r.lines c).pcm ++ never_given (last.listed c Pcm) (last.lines c Pcm))) (sym (idle c i o))
@@ -153,7 +153,7 @@ module _ (r : Run) (t n : ℕ) (b : State) (farm after : FarmMemory) (first befo
           so_far = subst (λ (ds : List Done). IsSoFar r (t + n) ds b'.left) (sym done)
               (subst (IsSoFar r (t + n) b.done) (sym left) (round_over r t n b.done b.left h));
           tells = tells_after;
-          stands = stand_same (those_that (goes_on_call w.worked_seats) worked_at_end) (histories_at r b'.done (t + n)) after.calls
+          stands = stand_same (those_that (goes_on_call w.worked_portions) worked_at_end) (histories_at r b'.done (t + n)) after.calls
               (λ c. histories_after c ∙ ap (λ (ds : List Done). histories_at r ds (t + n) c) (sym done)) (w.stands hs at.follows.stands);
         };
         lines = lines_after;

@@ -11,14 +11,14 @@ use Rattle.farm_rounds.specs.RoundHistories.{worked_histories, WorkedStand, AreW
 
 -- a round as it was planned and filled, its work, and the farm after it
 pub record IsMade (farm after : FarmMemory) (planned filled : RoundMemory) (worked : WorkedMemory) : Type 0 where
-  pub kept : filled ≡ record planned { seats = filled.seats }
+  pub kept : filled ≡ record planned { portions = filled.portions }
   pub farm_planned : planned.farm ≡ record farm { ended = planned.farm.ended }
   pub farm_worked : worked.farm ≡ record filled.farm { calls = worked.farm.calls }
   pub partners_worked : (c : ℕ) → partner_in worked.farm.calls c ≡ partner_in filled.farm.calls c
   pub stands : (h : ℕ → Option CallHistory) → CallsStand h filled.farm.calls →
-      WorkedStand (worked_histories filled.seats (partner_in filled.farm.calls) h) worked
+      WorkedStand (worked_histories filled.portions (partner_in filled.farm.calls) h) worked
   pub octets : (h : ℕ → Option CallHistory) → CallsStand h filled.farm.calls →
-      AreWorked filled.seats (worked_histories filled.seats (partner_in filled.farm.calls) h) worked.seats
+      AreWorked filled.portions (worked_histories filled.portions (partner_in filled.farm.calls) h) worked.portions
   pub passed : IsPassed worked after
 
 module _ (farm after : FarmMemory) (planned filled : RoundMemory) (worked : WorkedMemory)
@@ -47,33 +47,33 @@ module _ (farm after : FarmMemory) (planned filled : RoundMemory) (worked : Work
 
   -- the calls come to what they have had at the round's end
   stand : (h : ℕ → Option CallHistory) → CallsStand h farm.calls →
-      WorkedStand (worked_histories filled.seats (partner_in farm.calls) h) worked
-  stand h = subst (λ (ks : List Kept). CallsStand h ks → WorkedStand (worked_histories filled.seats (partner_in ks) h) worked) calls (m.stands h)
+      WorkedStand (worked_histories filled.portions (partner_in farm.calls) h) worked
+  stand h = subst (λ (ks : List Kept). CallsStand h ks → WorkedStand (worked_histories filled.portions (partner_in ks) h) worked) calls (m.stands h)
 
-  -- **The seats hold what the calls give in it.**
+  -- **The portions hold what the calls give in it.**
   pub made_octets : (h : ℕ → Option CallHistory) → CallsStand h farm.calls →
-      AreWorked filled.seats (worked_histories filled.seats (partner_in farm.calls) h) worked.seats
-  made_octets h = subst (λ (ks : List Kept). CallsStand h ks → AreWorked filled.seats (worked_histories filled.seats (partner_in ks) h) worked.seats)
+      AreWorked filled.portions (worked_histories filled.portions (partner_in farm.calls) h) worked.portions
+  made_octets h = subst (λ (ks : List Kept). CallsStand h ks → AreWorked filled.portions (worked_histories filled.portions (partner_in ks) h) worked.portions)
       calls (m.octets h)
 
   -- **The calls that go on stay in the farm.**
-  pub made_open : (c : ℕ) → is_some (call_in after.calls c) ≡ (is_among farm.live c && goes_on_call worked.seats c)
-  made_open c = m.passed.is_open c ∙ m.passed.live c ∙ ap (λ (l : List ℕ). is_among l c && goes_on_call worked.seats c) live
+  pub made_open : (c : ℕ) → is_some (call_in after.calls c) ≡ (is_among farm.live c && goes_on_call worked.portions c)
+  made_open c = m.passed.is_open c ∙ m.passed.live c ∙ ap (λ (l : List ℕ). is_among l c && goes_on_call worked.portions c) live
 
   -- **So do the partners of which both go on.**
-  pub made_partners : (c : ℕ) → partner_in after.calls c ≡ partner_past (goes_on_call worked.seats) (partner_in farm.calls) c
-  made_partners c = m.passed.partners c ∙ ap (λ (q : ℕ → Option ℕ). partner_past (goes_on_call worked.seats) q c) partner_worked
+  pub made_partners : (c : ℕ) → partner_in after.calls c ≡ partner_past (goes_on_call worked.portions) (partner_in farm.calls) c
+  made_partners c = m.passed.partners c ∙ ap (λ (q : ℕ → Option ℕ). partner_past (goes_on_call worked.portions) q c) partner_worked
 
   -- **The farm stands for what they have had then.**
   pub made_stands : (h : ℕ → Option CallHistory) → CallsStand h farm.calls →
-      CallsStand (those_that (goes_on_call worked.seats) (worked_histories filled.seats (partner_in farm.calls) h)) after.calls
-  made_stands h g = m.passed.history (worked_histories filled.seats (partner_in farm.calls) h) (stand h g)
+      CallsStand (those_that (goes_on_call worked.portions) (worked_histories filled.portions (partner_in farm.calls) h)) after.calls
+  made_stands h g = m.passed.history (worked_histories filled.portions (partner_in farm.calls) h) (stand h g)
 
   -- **Of the others it keeps the counts.**
   pub made_tallies : (h : ℕ → Option CallHistory) → CallsStand h farm.calls → (c : ℕ) →
-      tally_in after.tallies c ≡ (if goes_on_call worked.seats c then tally_in farm.tallies c else kept_of
-      (worked_histories filled.seats (partner_in farm.calls) h c) (tally_in farm.tallies c))
+      tally_in after.tallies c ≡ (if goes_on_call worked.portions c then tally_in farm.tallies c else kept_of
+      (worked_histories filled.portions (partner_in farm.calls) h c) (tally_in farm.tallies c))
   made_tallies h g c =
-      m.passed.tallies (worked_histories filled.seats (partner_in farm.calls) h) (stand h g) c
-      ∙ ap (λ (ts : List Tally). if goes_on_call worked.seats c then tally_in ts c else kept_of (worked_histories filled.seats (partner_in farm.calls) h c)
+      m.passed.tallies (worked_histories filled.portions (partner_in farm.calls) h) (stand h g) c
+      ∙ ap (λ (ts : List Tally). if goes_on_call worked.portions c then tally_in ts c else kept_of (worked_histories filled.portions (partner_in farm.calls) h c)
       (tally_in ts c)) tallies

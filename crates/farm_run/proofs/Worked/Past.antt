@@ -6,8 +6,8 @@ use Rattle.trau_io.specs.declared.ends.CallEnd.{CallEnd}
 use Rattle.trau_io.specs.declared.line.Side.{Side}
 use Rattle.trau_io.specs.Lines.{LineState}
 use Rattle.round_lines.specs.Memory as round_lines
-use Rattle.round_lines.specs.Seats.{SeatMemory}
-use Rattle.round_lines.specs.Rounds.{seat_at}
+use Rattle.round_lines.specs.Portions.{PortionMemory}
+use Rattle.round_lines.specs.Rounds.{portion_at}
 use Rattle.switchboard.specs.declared.table.Bridge.{Bridge}
 use Rattle.switchboard.specs.Calls.{Done, is_open, gone_at}
 use Rattle.switchboard.specs.Bridges.{bridges, joins, other, lasts, bridge_of}
@@ -20,7 +20,7 @@ use Rattle.farm_rounds.specs.Calls.{partner_in}
 use Rattle.farm_rounds.specs.Memory.{FarmMemory}
 use Rattle.farm_rounds.specs.Histories.{CallHistory}
 use Rattle.farm_rounds.specs.Rounds.{io_of}
-use Rattle.farm_rounds.specs.RoundHistories.{seat_of, history_with, history_alone, history_beside, history_bridged, worked_histories}
+use Rattle.farm_rounds.specs.RoundHistories.{portion_of, history_with, history_alone, history_beside, history_bridged, worked_histories}
 use Rattle.run_spec.specs.Run.{Run, whole_in, periods_to, law_in}
 use Rattle.run_spec.specs.Now.{settings_now}
 use Rattle.farm_run.proofs.Rounds.Taken.{IsRound, IsFed, places_in}
@@ -33,7 +33,7 @@ use Rattle.farm_run.proofs.Rounds.Partners.{bridged_worked, bridged_settings, bo
 use Rattle.farm_run.proofs.Rounds.Finished.{fed_taken}
 use Rattle.farm_run.proofs.Ordered.Due.{open_told}
 use Rattle.farm_run.proofs.Worked.Round.{WorkedRound, MeetsRun}
-use Rattle.farm_run.proofs.Worked.Calls.{OpenSeat, open_seat}
+use Rattle.farm_run.proofs.Worked.Calls.{OpenPortion, open_portion}
 
 -- where the same calls are open, the same bridges last
 bridge_same : (gone gone' : ℕ → Bool) (ds : List Done) (c : ℕ) →
@@ -56,7 +56,7 @@ module _ (r : Run) (t n : ℕ) (b : State) (farm after : FarmMemory) (first befo
     (w : WorkedRound t n farm after before now ends) (h : IsRound r t n b.done b.left)
     (m : Matches b farm.calls) (b' : State) (last : Standing)
     (at : IsAtClock r t b farm.calls last first before)
-    (meets : MeetsRun r n w.filled_seats (standing b' after.failed now) last) where
+    (meets : MeetsRun r n w.filled_portions (standing b' after.failed now) last) where
   -- whether a call is open at the clock
   abbrev is_alive : ℕ → Bool
   is_alive = is_open (gone_at (whole_in r) t b.done) b.done
@@ -65,12 +65,12 @@ module _ (r : Run) (t n : ℕ) (b : State) (farm after : FarmMemory) (first befo
   abbrev bridge_at : ℕ → Option Bridge
   bridge_at = bridge_of (gone_at (whole_in r) t b.done) b.done
 
-  -- what is known of its seat
-  abbrev Seat : ℕ → Type 0
-  Seat c = OpenSeat r t n b farm after first before now ends w h m b' last at meets c
+  -- what is known of its portion
+  abbrev Portion : ℕ → Type 0
+  Portion c = OpenPortion r t n b farm after first before now ends w h m b' last at meets c
 
-  abbrev seat : (c : ℕ) → is_alive c ≡ true → Seat c
-  seat c o = open_seat r t n b farm after first before now ends w h m b' last at meets c o
+  abbrev portion : (c : ℕ) → is_alive c ≡ true → Portion c
+  portion c o = open_portion r t n b farm after first before now ends w h m b' last at meets c o
 
   -- **A call's partner is the other call of its bridge.**
   partner_is : (c : ℕ) → partner_in farm.calls c ≡ option_map (other c) (bridge_at c)
@@ -83,7 +83,7 @@ module _ (r : Run) (t n : ℕ) (b : State) (farm after : FarmMemory) (first befo
 
   -- what its job is given
   abbrev octets : ℕ → IoMemory
-  octets c = io_of (seat_of w.filled_seats c)
+  octets c = io_of (portion_of w.filled_portions c)
 
   -- what it has had before the round
   past_is : (c : ℕ) → is_alive c ≡ true → histories_at r b.done t c ≡ Some (past c)
@@ -92,14 +92,14 @@ module _ (r : Run) (t n : ℕ) (b : State) (farm after : FarmMemory) (first befo
   -- its job is given what the run's lines give
   pub fed : (c : ℕ) → is_alive c ≡ true → IsFed r b.done t n c (octets c)
   fed c o =
-      let s = seat c o in
-      let x = seat_at w.filled_seats s.k in
-      subst (λ (x : SeatMemory). IsFed r b.done t n c (io_of x)) (sym s.found)
+      let s = portion c o in
+      let x = portion_at w.filled_portions s.k in
+      subst (λ (x : PortionMemory). IsFed r b.done t n c (io_of x)) (sym s.found)
       (fed_taken r t n b.done b.left c x.lines (io_of x) h o s.taken s.number refl refl)
 
   -- for so many periods as the run says
-  pub given : (c : ℕ) → is_alive c ≡ true → round_lines.whole_in (seat_of w.filled_seats c).lines ≡ places_in r b.done t n c
-  given c o = let s = seat c o in ap (λ (x : SeatMemory). round_lines.whole_in x.lines) s.found ∙ s.whole
+  pub given : (c : ℕ) → is_alive c ≡ true → round_lines.whole_in (portion_of w.filled_portions c).lines ≡ places_in r b.done t n c
+  given c o = let s = portion c o in ap (λ (x : PortionMemory). round_lines.whole_in x.lines) s.found ∙ s.whole
 
   -- no more than the round has
   at_most : (c : ℕ) → places_in r b.done t n c ≤ n
@@ -108,8 +108,8 @@ module _ (r : Run) (t n : ℕ) (b : State) (farm after : FarmMemory) (first befo
       most : (n m : ℕ) → min n m ≤ n
       most n m = omega arith
 
-  -- What a call has had after the round: its periods up to where its lines ended it or the round ends. What is set for the
-  -- next one is what the run has set, where it goes on.
+  -- What a call has had after the round: its periods up to where its lines ended it or the round ends. What is set for
+  -- the next one is what the run has set, where it goes on.
   pub record IsPast (c : ℕ) (x : CallHistory) : Type 0 where
     pub law : x.law ≡ law_in r c
     pub periods : x.periods ≡ periods_to r c (t + places_in r b.done t n c - start_of b.done c)
@@ -121,7 +121,7 @@ module _ (r : Run) (t n : ℕ) (b : State) (farm after : FarmMemory) (first befo
   starts_kept c k l = ap (λ (s : Settings). s.starts) (settings_kept r t n b.done b.left c k h l)
 
   -- **Of a call that isn't bridged.**
-  alone_is : (c : ℕ) → is_alive c ≡ true → bridge_at c ≡ None → IsPast c (history_alone w.filled_seats c (past c))
+  alone_is : (c : ℕ) → is_alive c ≡ true → bridge_at c ≡ None → IsPast c (history_alone w.filled_portions c (past c))
   alone_is c o none =
       let g = given c o in
       let k = places_in r b.done t n c in
@@ -135,15 +135,15 @@ module _ (r : Run) (t n : ℕ) (b : State) (farm after : FarmMemory) (first befo
 
   -- **Of one that is, with its partner.**
   bridged_is : (c : ℕ) (x : Bridge) → is_alive c ≡ true → is_alive (other c x) ≡ true → bridge_at c ≡ Some x →
-      IsPast c (history_bridged w.filled_seats c (past c) (other c x) (past (other c x)))
+      IsPast c (history_bridged w.filled_portions c (past c) (other c x) (past (other c x)))
   bridged_is c x o p some =
       let d = other c x in
       let g = given c o in
       let k = places_in r b.done t n c in
       let l = at_most c in
       let now = settings_now r b.done t c in
-      let whole = round_lines.whole_in (seat_of w.filled_seats c).lines in
-      let others = round_lines.whole_in (seat_of w.filled_seats d).lines in
+      let whole = round_lines.whole_in (portion_of w.filled_portions c).lines in
+      let others = round_lines.whole_in (portion_of w.filled_portions d).lines in
       record {
         law = refl;
         periods = bridged_worked r t n b.done b.left c x (octets c) (octets d) h some (fed c o) (fed d p)
@@ -155,28 +155,28 @@ module _ (r : Run) (t n : ℕ) (b : State) (farm after : FarmMemory) (first befo
 
   -- **Each open call has had after the round what the run gives it.**
   pub worked_past : (c : ℕ) → is_alive c ≡ true →
-      (x : CallHistory) × (worked_histories w.filled_seats (partner_in farm.calls) (histories_at r b.done t) c ≡ Some x) × IsPast c x
+      (x : CallHistory) × (worked_histories w.filled_portions (partner_in farm.calls) (histories_at r b.done t) c ≡ Some x) × IsPast c x
   worked_past c o = by (bridge_at c) refl
     where
       hs : ℕ → Option CallHistory
       hs = histories_at r b.done t
 
-      start : (q : Option ℕ) → partner_in farm.calls c ≡ q → worked_histories w.filled_seats (partner_in farm.calls) hs c
-          ≡ Some (history_with w.filled_seats hs c q (past c))
-      start q e = ap (option_map (history_with w.filled_seats hs c (partner_in farm.calls c))) (past_is c o)
-          ∙ ap (λ (q : Option ℕ). Some (history_with w.filled_seats hs c q (past c))) e
+      start : (q : Option ℕ) → partner_in farm.calls c ≡ q → worked_histories w.filled_portions (partner_in farm.calls) hs c
+          ≡ Some (history_with w.filled_portions hs c q (past c))
+      start q e = ap (option_map (history_with w.filled_portions hs c (partner_in farm.calls c))) (past_is c o)
+          ∙ ap (λ (q : Option ℕ). Some (history_with w.filled_portions hs c q (past c))) e
 
       by : (v : Option Bridge) → bridge_at c ≡ v →
-          (x : CallHistory) × (worked_histories w.filled_seats (partner_in farm.calls) hs c
+          (x : CallHistory) × (worked_histories w.filled_portions (partner_in farm.calls) hs c
           ≡ Some x) × IsPast c x
-      by None e = (history_alone w.filled_seats c (past c), start None (partner_is c ∙ ap (option_map (other c)) e), alone_is c o e)
+      by None e = (history_alone w.filled_portions c (past c), start None (partner_is c ∙ ap (option_map (other c)) e), alone_is c o e)
       by (Some x) e =
           let parts = bridge_open r t b.done c x e in
           let both =
           and_parts (is_alive c) (is_alive (other c x)) (sym (both_calls is_alive c x parts.0) ∙ and_from (is_alive x.a) (is_alive x.b) parts.1 parts.2) in
           let partner = past_is (other c x) both.1 in (
-            history_bridged w.filled_seats c (past c) (other c x) (past (other c x)),
+            history_bridged w.filled_portions c (past c) (other c x) (past (other c x)),
             start (Some (other c x)) (partner_is c ∙ ap (option_map (other c)) e)
-                ∙ ap (λ (y : Option CallHistory). Some (history_beside w.filled_seats c (past c) (other c x) y)) partner,
+                ∙ ap (λ (y : Option CallHistory). Some (history_beside w.filled_portions c (past c) (other c x) y)) partner,
             bridged_is c x o both.1 e,
           )

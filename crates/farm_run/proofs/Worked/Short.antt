@@ -1,4 +1,5 @@
--- What was read of the incoming lines of a call that its lines end: of one that failed fewer octets than the round takes of it.
+-- What was read of the incoming lines of a call that its lines end: of one that failed fewer octets than the round
+-- takes of it.
 use Rattle.std.proofs.Common.{◌≡◌, sym, ap, ◌∙◌, subst, ℕ, ◌+◌, ◌-◌, ◌*◌, ◌<◌, ◌≤◌, Bool, true, false, ◌&&◌, List, [], length, inl, inr, arith, mul-add}
 use Rattle.std.specs.Prelude.{min, nat_lt}
 use Rattle.std.proofs.lemmas.Bool.{cases_Bool, true≢false, lt-ltb}
@@ -8,13 +9,13 @@ use Rattle.trau_io.specs.declared.line.Line.{Line}
 use Rattle.trau_io.specs.declared.line.Side.{Side}
 use Rattle.trau_io.specs.declared.line.Side.TheVariants.{Up, Pcm}
 use Rattle.trau_io.specs.Lines.{LineState}
-use Rattle.round_lines.specs.Rounds.{seat_at}
+use Rattle.round_lines.specs.Rounds.{portion_at}
 use Rattle.switchboard.specs.Calls.{is_open, gone_at}
 use Rattle.switchboard.specs.Ends.{start_of, end_of, lack_of}
 use Rattle.switchboard.specs.State.{State}
 use Rattle.farm_rounds.specs.Memory.{FarmMemory}
 use Rattle.run_spec.specs.Run.{Run, given_in, whole_in, done_in, start_in, end_in, cause_in}
-use Rattle.run_spec.proofs.SoFar.{standing_now}
+use Rattle.run_spec.proofs.Periods.SoFar.{standing_now}
 use Rattle.farm_run.specs.Runs.{FailedIn, FailedBy, ReadBy, IsCutOff, IsReadTo, is_listed}
 use Rattle.farm_run.specs.Match.{Matches}
 use Rattle.farm_run.specs.Standing.{Standing, standing}
@@ -27,8 +28,8 @@ use Rattle.farm_run.proofs.Clocks.Reach.{end_after, open_before_end, ended_befor
 use Rattle.farm_run.proofs.Worked.Round.{WorkedRound, up_long, pcm_long, MeetsRun}
 use Rattle.farm_run.proofs.Worked.Written as worked_written
 use Rattle.farm_run.proofs.Listed.Round.{listed_kept, listed_incoming}
-use Rattle.farm_rounds.proofs.Gaining.{fewer_up, fewer_pcm}
-use Rattle.farm_run.proofs.Worked.Calls.{OpenSeat, open_seat, open_is}
+use Rattle.farm_rounds.proofs.Failed.Gained.{fewer_up, fewer_pcm}
+use Rattle.farm_run.proofs.Worked.Calls.{OpenPortion, open_portion, open_is}
 
 -- Each incoming line that is listed after the round from t up to u, and wasn't before, failed in it.
 pub record FailedInRound (r : Run) (t u : ℕ) (was is : ℕ → Side → Bool) : Type 0 where
@@ -39,17 +40,17 @@ module _ (r : Run) (t n : ℕ) (b : State) (farm after : FarmMemory) (first befo
     (w : WorkedRound t n farm after before now ends) (h : IsRound r t n b.done b.left)
     (m : Matches b farm.calls) (b' : State) (last : Standing)
     (at : IsAtClock r t b farm.calls last first before)
-    (meets : MeetsRun r n w.filled_seats (standing b' after.failed now) last) where
+    (meets : MeetsRun r n w.filled_portions (standing b' after.failed now) last) where
   -- whether a call is open at the clock
   abbrev alive : ℕ → Bool
   alive = is_open (gone_at (whole_in r) t b.done) b.done
 
-  -- what is known of its seat
-  abbrev Seat : ℕ → Type 0
-  Seat c = OpenSeat r t n b farm after first before now ends w h m b' last at meets c
+  -- what is known of its portion
+  abbrev Portion : ℕ → Type 0
+  Portion c = OpenPortion r t n b farm after first before now ends w h m b' last at meets c
 
-  abbrev seat : (c : ℕ) → alive c ≡ true → Seat c
-  seat c o = open_seat r t n b farm after first before now ends w h m b' last at meets c o
+  abbrev portion : (c : ℕ) → alive c ≡ true → Portion c
+  portion c o = open_portion r t n b farm after first before now ends w h m b' last at meets c o
 
   -- a call that lacks a period of the round ends in it
   ends_here : (c octets : ℕ) (line : List ℕ) → alive c ≡ true → places_in r b.done t n c < n →
@@ -84,14 +85,14 @@ module _ (r : Run) (t n : ℕ) (b : State) (farm after : FarmMemory) (first befo
   -- an open call's incoming line that is listed behind the round failed in it
   up_failed : (c : ℕ) → alive c ≡ true → is_listed after.failed c Up ≡ true → FailedIn r c 40 (r.lines c).up t (t + n)
   up_failed c o listed =
-      let s = seat c o in
-      let failed : (seat_at w.filled_seats s.k).lines.up.failed ≡ true =
+      let s = portion c o in
+      let failed : (portion_at w.filled_portions s.k).lines.up.failed ≡ true =
       sym (listed_incoming t n farm after before now ends w s.k c Up s.within s.here tt) ∙ listed in
-      let less : (seat_at w.filled_seats s.k).lines.up.count < 40 * n =
+      let less : (portion_at w.filled_portions s.k).lines.up.count < 40 * n =
       (let l = s.facts.front.fills.up.short failed in omega (arith, l, up_long _ _ _ _ _ _ _ _ s.facts.front)) in
-      let lacks : places_in r b.done t n c < n = (let l = fewer_up (seat_at w.filled_seats s.k).lines n less in omega (arith, l, s.whole)) in
+      let lacks : places_in r b.done t n c < n = (let l = fewer_up (portion_at w.filled_portions s.k).lines n less in omega (arith, l, s.whole)) in
       let start = begun c o in
-      ends_here c 40 (r.lines c).up o lacks (few_in_all 40 (seat_at w.filled_seats s.k).lines.up.count (length (r.lines c).up)
+      ends_here c 40 (r.lines c).up o lacks (few_in_all 40 (portion_at w.filled_portions s.k).lines.up.count (length (r.lines c).up)
       (start_of b.done c) s.taken.up_count less start (spread (start_of b.done c) start))
     where
       spread : (s : ℕ) → s ≤ t → 40 * (t - s) + 40 * n ≡ 40 * (t + n - s)
@@ -99,14 +100,14 @@ module _ (r : Run) (t n : ℕ) (b : State) (farm after : FarmMemory) (first befo
 
   pcm_failed : (c : ℕ) → alive c ≡ true → is_listed after.failed c Pcm ≡ true → FailedIn r c 160 (r.lines c).pcm t (t + n)
   pcm_failed c o listed =
-      let s = seat c o in
-      let failed : (seat_at w.filled_seats s.k).lines.pcm.failed ≡ true =
+      let s = portion c o in
+      let failed : (portion_at w.filled_portions s.k).lines.pcm.failed ≡ true =
       sym (listed_incoming t n farm after before now ends w s.k c Pcm s.within s.here tt) ∙ listed in
-      let less : (seat_at w.filled_seats s.k).lines.pcm.count < 160 * n =
+      let less : (portion_at w.filled_portions s.k).lines.pcm.count < 160 * n =
       (let l = s.facts.front.fills.pcm.short failed in omega (arith, l, pcm_long _ _ _ _ _ _ _ _ s.facts.front)) in
-      let lacks : places_in r b.done t n c < n = (let l = fewer_pcm (seat_at w.filled_seats s.k).lines n less in omega (arith, l, s.whole)) in
+      let lacks : places_in r b.done t n c < n = (let l = fewer_pcm (portion_at w.filled_portions s.k).lines n less in omega (arith, l, s.whole)) in
       let start = begun c o in
-      ends_here c 160 (r.lines c).pcm o lacks (few_in_all 160 (seat_at w.filled_seats s.k).lines.pcm.count (length (r.lines c).pcm)
+      ends_here c 160 (r.lines c).pcm o lacks (few_in_all 160 (portion_at w.filled_portions s.k).lines.pcm.count (length (r.lines c).pcm)
       (start_of b.done c) s.taken.pcm_count less start (spread (start_of b.done c) start))
     where
       spread : (s : ℕ) → s ≤ t → 160 * (t - s) + 160 * n ≡ 160 * (t + n - s)
@@ -129,7 +130,7 @@ module _ (r : Run) (t n : ℕ) (b : State) (farm after : FarmMemory) (first befo
   pub read_after : (batch : ℕ) → n ≤ batch → ReadBy r batch t last.listed before → ReadBy r batch (t + n) last.listed now
   read_after batch few read c i ended not = elim (cases_Bool (alive c)) [
     | inl o ↦
-        let s = seat c o in
+        let s = portion c o in
         let start = begun c o in
         let same : start_in r c ≡ start_of b.done c = start_kept r t n b.done b.left c h o in (
           t,

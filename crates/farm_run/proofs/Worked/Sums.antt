@@ -8,15 +8,15 @@ use Rattle.trau_io.specs.declared.ends.CallEnd.{CallEnd}
 use Rattle.trau_io.specs.declared.line.Side.{Side}
 use Rattle.trau_io.specs.declared.line.Side.TheVariants.{Down, Out}
 use Rattle.trau_io.specs.Lines.{LineState}
-use Rattle.round_lines.specs.Seats as seats
-use Rattle.round_lines.specs.Rounds.{seat_at}
+use Rattle.round_lines.specs.Portions as portions
+use Rattle.round_lines.specs.Rounds.{portion_at}
 use Rattle.switchboard.specs.Calls.{is_open, gone_at}
 use Rattle.switchboard.specs.State.{State}
 use Rattle.farm_report.specs.Sums.{sum_of}
 use Rattle.farm_rounds.specs.Calls.{call_in}
 use Rattle.farm_rounds.specs.Memory.{FarmMemory}
 use Rattle.farm_rounds.specs.Sums.{Adds}
-use Rattle.farm_rounds.proofs.Rising.{there}
+use Rattle.farm_rounds.proofs.Places.Rising.{there}
 use Rattle.run_spec.specs.Run.{Run, whole_in, periods_to, who_in, IsOpened, worked_to}
 use Rattle.run_spec.specs.Lines.{out_line, down_octets}
 use Rattle.farm_run.specs.Match.{Matches}
@@ -24,7 +24,7 @@ use Rattle.farm_run.specs.Standing.{Standing, standing}
 use Rattle.farm_run.specs.Clock.{IsAtClock}
 use Rattle.farm_run.specs.Stages.{SumsAt}
 use Rattle.farm_run.proofs.Rounds.Taken.{IsRound}
-use Rattle.farm_run.proofs.Worked.Calls.{OpenSeat, open_seat, open_is}
+use Rattle.farm_run.proofs.Worked.Calls.{OpenPortion, open_portion, open_is}
 use Rattle.farm_run.proofs.Worked.Written.{grown_out, grown_down, idle}
 use Rattle.farm_run.proofs.Worked.Round.{WorkedRound, MeetsRun}
 use Rattle.farm_run.proofs.Worked.Facts.{worked_at}
@@ -41,13 +41,13 @@ module _ (r : Run) (t n : ℕ) (b : State) (farm after : FarmMemory) (first befo
     (w : WorkedRound t n farm after before now ends) (h : IsRound r t n b.done b.left)
     (m : Matches b farm.calls) (b' : State) (last : Standing)
     (at : IsAtClock r t b farm.calls last first before)
-    (meets : MeetsRun r n w.filled_seats (standing b' after.failed now) last)
-    (was is : ℕ → Side → ℕ) (adds : Adds w.worked_seats was is) where
+    (meets : MeetsRun r n w.filled_portions (standing b' after.failed now) last)
+    (was is : ℕ → Side → ℕ) (adds : Adds w.worked_portions was is) where
   -- whether a call is open at the clock
   abbrev alive : ℕ → Bool
   alive = is_open (gone_at (whole_in r) t b.done) b.done
 
-  -- the sums of a call that has no seat stay
+  -- the sums of a call that has no portion stay
   stay : (c : ℕ) → alive c ≡ false → (s : Side) → is c s ≡ was c s
   stay c o s = adds.others c s (λ k l e i.
       let within : k < length farm.live = omega (arith, l, w.number, w.filled_number, w.worked_number) in
@@ -55,9 +55,9 @@ module _ (r : Run) (t n : ℕ) (b : State) (farm after : FarmMemory) (first befo
       ∙ there farm.live c k within (sym (e ∙ worked_at t n farm after before now ends w k within)) in
       true≢false (sym live ∙ open_is r t n b farm after first before now ends w h m b' last at meets c ∙ o))
 
-  -- what is known of its seat
-  abbrev seat : (c : ℕ) → alive c ≡ true → OpenSeat r t n b farm after first before now ends w h m b' last at meets c
-  seat c o = open_seat r t n b farm after first before now ends w h m b' last at meets c o
+  -- what is known of its portion
+  abbrev portion : (c : ℕ) → alive c ≡ true → OpenPortion r t n b farm after first before now ends w h m b' last at meets c
+  portion c o = open_portion r t n b farm after first before now ends w h m b' last at meets c o
 
   -- **They are those of all octets up to the round's end.**
   pub sums_after : SumsAt r t was → SumsAt r (t + n) is
@@ -66,10 +66,10 @@ module _ (r : Run) (t n : ℕ) (b : State) (farm after : FarmMemory) (first befo
       out : (c : ℕ) → IsOpened r c → is c Out ≡ sum_of (out_line (who_in r c) (periods_to r c (worked_to r (t + n) c)))
       out c i = elim (cases_Bool (alive c)) [
         | inl o ↦
-            let s = seat c o in
+            let s = portion c o in
             let l = s.within in
-            let within : s.k < length w.worked_seats = omega (arith, l, w.number, w.filled_number, w.worked_number) in
-            let more = seats.out_given (seat_at w.worked_seats s.k) in
+            let within : s.k < length w.worked_portions = omega (arith, l, w.number, w.filled_number, w.worked_number) in
+            let more = portions.out_given (portion_at w.worked_portions s.k) in
             subst (λ (d : ℕ). is d Out ≡ (was d Out + sum more) % 2 ^ 32)
             (worked_at t n farm after before now ends w s.k s.within ∙ s.here) (adds.out s.k within)
             ∙ ap (λ (v : ℕ). (v + sum more) % 2 ^ 32) (sums.out c i)
@@ -83,10 +83,10 @@ module _ (r : Run) (t n : ℕ) (b : State) (farm after : FarmMemory) (first befo
       down : (c : ℕ) → IsOpened r c → is c Down ≡ sum_of (down_octets (who_in r c) (periods_to r c (worked_to r (t + n) c)))
       down c i = elim (cases_Bool (alive c)) [
         | inl o ↦
-            let s = seat c o in
+            let s = portion c o in
             let l = s.within in
-            let within : s.k < length w.worked_seats = omega (arith, l, w.number, w.filled_number, w.worked_number) in
-            let more = seats.down_given (seat_at w.worked_seats s.k) in
+            let within : s.k < length w.worked_portions = omega (arith, l, w.number, w.filled_number, w.worked_number) in
+            let more = portions.down_given (portion_at w.worked_portions s.k) in
             subst (λ (d : ℕ). is d Down ≡ (was d Down + sum more) % 2 ^ 32)
             (worked_at t n farm after before now ends w s.k s.within ∙ s.here) (adds.down s.k within)
             ∙ ap (λ (v : ℕ). (v + sum more) % 2 ^ 32) (sums.down c i)

@@ -31,25 +31,25 @@ module _ (r : Run) (t n : ℕ) (b : State) (farm after : FarmMemory) (first befo
     (w : WorkedRound t n farm after before now ends) (h : IsRound r t n b.done b.left)
     (m : Matches b farm.calls) (b' : State) (last : Standing)
     (at : IsAtClock r t b farm.calls last first before)
-    (meets : MeetsRun r n w.filled_seats (standing b' after.failed now) last) where
+    (meets : MeetsRun r n w.filled_portions (standing b' after.failed now) last) where
   -- whether a call is open at the clock
   abbrev alive : ℕ → Bool
   alive = is_open (gone_at (whole_in r) t b.done) b.done
 
   -- what each call has had at the round's end
   abbrev worked_at_end : ℕ → Option CallHistory
-  worked_at_end = worked_histories w.filled_seats (partner_in farm.calls) (histories_at r b.done t)
+  worked_at_end = worked_histories w.filled_portions (partner_in farm.calls) (histories_at r b.done t)
 
   -- what was kept of each before it
   abbrev was : ℕ → Tally
   was = tally_in farm.tallies
 
   -- what is kept of each behind it
-  kept : (c : ℕ) → tally_in after.tallies c ≡ (if goes_on_call w.worked_seats c then was c else kept_of (worked_at_end c) (was c))
+  kept : (c : ℕ) → tally_in after.tallies c ≡ (if goes_on_call w.worked_portions c then was c else kept_of (worked_at_end c) (was c))
   kept c = w.tallies (histories_at r b.done t) at.follows.stands c
 
   -- a call goes on where its lines give all periods of the round
-  goes : (c : ℕ) → alive c ≡ true → goes_on_call w.worked_seats c ≡ (places_in r b.done t n c == n)
+  goes : (c : ℕ) → alive c ≡ true → goes_on_call w.worked_portions c ≡ (places_in r b.done t n c == n)
   goes c o = goes_on_is r t n b farm after first before now ends w h m b' last at meets c o
 
   -- of a call that ends in it the counts are kept
@@ -83,15 +83,16 @@ module _ (r : Run) (t n : ℕ) (b : State) (farm after : FarmMemory) (first befo
       all : (k : ℕ) → k ≡ min n (start_of b.done c + whole_in r c - t) → nat_lt k n ≡ false → (k == n) ≡ true
       all k q f = elim (cases_lt k n) [ inl l ↦ let g = lt-ltb k n l in cc | inr l ↦ eq-eqb k n (omega arith) ]
 
-      by : (x : Bool) → alive c ≡ x → (if goes_on_call w.worked_seats c then was c else kept_of (worked_at_end c) (was c)) ≡ was c
+      by : (x : Bool) → alive c ≡ x → (if goes_on_call w.worked_portions c then was c else kept_of (worked_at_end c) (was c)) ≡ was c
       by true o = ap (λ (x : Bool). if x then was c else kept_of (worked_at_end c) (was c))
           (goes c o ∙ all (places_in r b.done t n c) refl (sym (ap (λ (x : Bool). x && nat_lt (places_in r b.done t n c) n) o) ∙ e))
       by false o =
-          ap (λ (y : Option CallHistory). if goes_on_call w.worked_seats c then was c else kept_of y (was c))
-          (ap (λ (x : Bool). option_map (history_with w.filled_seats (histories_at r b.done t) c (partner_in farm.calls c))
+          ap (λ (y : Option CallHistory). if goes_on_call w.worked_portions c then was c else kept_of y (was c))
+          (ap (λ (x : Bool). option_map (history_with w.filled_portions (histories_at r b.done t) c (partner_in farm.calls c))
           (past_if x (law_in r c) (periods_to r c (t - start_of b.done c)) (settings_now r b.done t c))) o)
-          ∙ either (goes_on_call w.worked_seats c)
+          ∙ either (goes_on_call w.worked_portions c)
 
-  -- **A call that its lines end within the round leaves the counts of its periods, and what is kept of the others stays.**
+  -- **A call that its lines end within the round leaves the counts of its periods, and what is kept of the others
+  -- stays.**
   pub tallies_after : KeepsTallies r t n b.done farm.tallies after.tallies
   tallies_after = record { ended = ended; others = others }

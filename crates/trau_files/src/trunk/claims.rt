@@ -3,13 +3,13 @@
 ghost use Rattle.std.specs.Prelude.{◌≡◌, ◌⊎◌, IfOk, IfErr, IfSome, IsSome, IsTrue, false, None, All};
 ghost use Rattle.std.specs.Fs.{IsFile, file_type};
 ghost use Rattle.trau_io.specs.Indices.{index_of_line};
-ghost use Rattle.trau_files.specs.declared.trunk.seats.Access.TheVariants.{Writing};
+ghost use Rattle.trau_files.specs.declared.trunk.bays.Access.TheVariants.{Writing};
 ghost use Rattle.trau_files.specs.Claims.{AreApart, Has, IsTaken, MayHave, MayShare, NotesDiskFile, NotesFile, OthersKeep};
 ghost use Rattle.trau_files.specs.Recordings.{HasOneName, IsFree, IsRecording};
 
+use super::bays::Access;
 use super::name::name_of;
 use super::recordings::Recordings;
-use super::seats::Access;
 use crate::folder::Folder;
 use std::alloc::{AllocError, Global};
 use std::fs::Metadata;
@@ -36,14 +36,16 @@ impl FileIdentity {
     }
 }
 
-/// The last file on a disk that a line was opened with, and what for. Once it is for writing, it stays so while the line has this file.
+/// The last file on a disk that a line was opened with, and what for. Once it is for writing, it stays so while the
+/// line has this file.
 #[derive(Clone, Copy)]
 pub struct Claim {
     pub file: FileIdentity,
     pub access: Access,
 }
 
-/// The files that lines have, by the lines' indices (`line_index`), and those of the folder's incoming lines, opened or not.
+/// The files that lines have, by the lines' indices (`line_index`), and those of the folder's incoming lines, opened or
+/// not.
 #[derive(Drop)]
 pub struct Claims<D: Folder> {
     of_lines: Vec<Option<Claim>>,
@@ -77,8 +79,9 @@ impl<D: Folder> Claims<D> {
         })
     }
 
-    /// Gives an opened file, which has these metadata, to the line, unless it is another line's, whose index is the error. A pipe
-    /// or a device keeps nothing that could be lost; any number of lines may have it. `is_new` says that the file was made just now.
+    /// Gives an opened file, which has these metadata, to the line, unless it is another line's, whose index is the
+    /// error. A pipe or a device keeps nothing that could be lost; any number of lines may have it. `is_new` says that
+    /// the file was made just now.
     pub fn take(
         &mut self,
         folder: &D,
@@ -108,13 +111,6 @@ impl<D: Folder> Claims<D> {
         }
     }
 
-    /// This file was removed: no incoming line has it.
-    pub fn forget(&mut self, file: FileIdentity)
-        ensures { self.new ≡ self.old }
-    {
-        self.recordings.forget(file);
-    }
-
     // The index of an incoming line, opened or not, whose file a line is to write under another name.
     fn recorded(
         &mut self,
@@ -135,7 +131,8 @@ impl<D: Folder> Claims<D> {
         }
     }
 
-    /// Gives the file to the line, unless another line has it and one of the two is written. The error is that line's index.
+    /// Gives the file to the line, unless another line has it and one of the two is written. The error is that line's
+    /// index.
     pub fn claim(&mut self, line: Line, claim: Claim) -> Result<(), usize>
         ensures noted { IfOk result (λ _. NotesDiskFile self.old self.new (index_of_line line.call line.side) claim) }
         ensures others { OthersKeep self.old self.new (index_of_line line.call line.side) }
@@ -198,8 +195,8 @@ fn clash(held: Option<Claim>, claim: Claim) -> bool
     }
 }
 
-// Whether a line's file may have another name beside the line's: that is a symbolic link, the file has several links, or the
-// system doesn't say.
+// Whether a line's file may have another name beside the line's: that is a symbolic link, the file has several links,
+// or the system doesn't say.
 fn is_linked<D: Folder>(folder: &D, line: Line, metadata: &Metadata) -> bool
     ensures { result ≡ false → HasOneName D.does folder.now line.call line.side metadata.now }
 {

@@ -50,8 +50,8 @@ fn side_at(place: usize) -> Side {
     }
 }
 
-/// Prints on standard error why lines failed, for the first twenty. No clause speaks of standard error, and the report of a run
-/// doesn't depend on it.
+/// Prints on standard error why lines failed, for the first twenty. No clause speaks of standard error, and the report
+/// of a run doesn't depend on it.
 #[derive(Drop)]
 pub struct Reasons {
     lines: u32,

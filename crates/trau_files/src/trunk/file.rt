@@ -6,8 +6,8 @@ ghost use Rattle.trau_io.specs.Indices.{index_of_line};
 ghost use Rattle.trau_files.specs.Claims.{AreApart, OthersKeep};
 ghost use Rattle.trau_files.specs.Files.{FileLine, raised, after_read, after_write, state_of};
 ghost use Rattle.trau_files.specs.Trunk.{PassesOn, ReadsFile, WritesFile};
-ghost use Rattle.trau_files.specs.Seats.{FreesSeats};
-ghost use Rattle.trau_files.specs.declared.trunk.seats.Access.TheVariants.{Reading, Writing};
+ghost use Rattle.trau_files.specs.Bays.{FreesBays};
+ghost use Rattle.trau_files.specs.declared.trunk.bays.Access.TheVariants.{Reading, Writing};
 
 use super::fault::Fault;
 use super::open::LineFiles;
@@ -51,7 +51,7 @@ impl LineFile {
         ensures reads { Reads (state_of self.old) (state_of self.new) result buf.new }
         ensures after { self.new ≡ after_read self.old result }
         ensures place { PassesOn result (λ found. ReadsFile D.does files.old files.new line.call line.side self.old.read found buf.new) }
-        ensures freed { FreesSeats D.does files.old files.new line.call line.side Reading self.old.read }
+        ensures freed { FreesBays D.does files.old files.new line.call line.side Reading self.old.read }
         ensures apart { AreApart files.new.claims }
         ensures others { OthersKeep files.old.claims files.new.claims (index_of_line line.call line.side) }
     {
@@ -74,7 +74,7 @@ impl LineFile {
         ensures writes { Writes (state_of self.old) (state_of self.new) result bytes.now }
         ensures after { self.new ≡ after_write self.old result }
         ensures place { PassesOn result (λ found. WritesFile D.does files.old files.new line.call line.side self.old.written found bytes.now) }
-        ensures freed { FreesSeats D.does files.old files.new line.call line.side Writing self.old.written }
+        ensures freed { FreesBays D.does files.old files.new line.call line.side Writing self.old.written }
         ensures apart { AreApart files.new.claims }
         ensures others { OthersKeep files.old.claims files.new.claims (index_of_line line.call line.side) }
     {

@@ -4,17 +4,17 @@ ghost use Rattle.std.specs.Prelude.{◌≡◌, ◌<◌, ◌↔◌, ◌⊎◌, le
 ghost use Rattle.std.specs.IoError.{raw_os_error};
 ghost use Rattle.std.specs.Io.{ReadsAtMost, WritesAtMost};
 ghost use Rattle.trau_io.specs.Indices.{index_of_line};
-ghost use Rattle.trau_files.specs.declared.trunk.seats.Access.TheVariants.{Reading, Writing};
+ghost use Rattle.trau_files.specs.declared.trunk.bays.Access.TheVariants.{Reading, Writing};
 ghost use Rattle.trau_files.specs.Claims.{AreApart, OthersKeep};
-ghost use Rattle.trau_files.specs.Files.{IsOpenAt, IsFileOf, OnlyCloses, OpenAfter, file_name, in_seat, options_for};
+ghost use Rattle.trau_files.specs.Files.{IsOpenAt, IsFileOf, OnlyCloses, OpenAfter, file_name, in_bay, options_for};
 ghost use Rattle.trau_files.specs.Opening.{IsSeen, IsOpened, IsShared, FailsToOpen, Opens, OpensOnce, OpensOrMakes, Starts, LacksDescriptor, IsToBeMade};
-ghost use Rattle.trau_files.specs.Seats.{FreesNext, FreesSeats, HoldsOrLessens};
+ghost use Rattle.trau_files.specs.Bays.{FreesNext, FreesBays, HoldsOrLessens};
 ghost use Rattle.trau_files.specs.Trunk.{IsFound, IsNowOpened, ReadsFile, WritesFile};
 
+use super::bays::{Access, Bays, NextBay, OpenFile};
 use super::claims::{Claim, Claims, FileIdentity};
 use super::fault::{Fault, Reasons};
 use super::name::name_of;
-use super::seats::{Access, NextSeat, OpenFile, Seats};
 use crate::folder::Folder;
 use std::alloc::Global;
 use std::fs::{Metadata, OpenOptions};
@@ -28,13 +28,13 @@ const NONE_IN_SYSTEM: i32 = 23;
 
 const NONE_IN_PROCESS: i32 = 24;
 
-/// The files of all lines. The first 255 that are opened stay open, and of the others the latest; fewer if the system allows
-/// fewer. A fault closes the file. A file on a disk that is written for one line is no other line's.
+/// The files of all lines. The first 255 that are opened stay open, and of the others the latest; fewer if the system
+/// allows fewer. A fault closes the file. A file on a disk that is written for one line is no other line's.
 #[derive(Drop)]
 pub struct LineFiles<D: Folder + Drop> {
     folder: D,
-    seats: Seats<D::File>,
-    place: NextSeat,
+    bays: Bays<D::File>,
+    place: NextBay,
     claims: Claims<D>,
     reasons: Reasons,
 }
@@ -45,7 +45,7 @@ impl<D: Folder + Drop> Model for LineFiles<D> {
 
     ghost Value = { OpenFiles D D.File };
 
-    ghost view = { λ f. record { seats = f.seats; claims = f.claims; next = f.place.next; last = f.place.last; folder = f.folder } };
+    ghost view = { λ f. record { bays = f.bays; claims = f.claims; next = f.place.next; last = f.place.last; folder = f.folder } };
 
     ghost invariant = { λ f. AreApart f.claims };
 }
@@ -53,8 +53,8 @@ impl<D: Folder + Drop> Model for LineFiles<D> {
 impl<D: Folder + Drop> LineFiles<D> {
     /// No file is open yet. The error is the folder, if there is no memory for its tables.
     pub fn new(alloc: Global, folder: D) -> Result<LineFiles<D>, D>
-        ensures number { IfOk result (λ f. length f.seats ≡ 256) }
-        ensures closed { IfOk result (λ f. All (λ seat. seat ≡ None) f.seats) }
+        ensures number { IfOk result (λ f. length f.bays ≡ 256) }
+        ensures closed { IfOk result (λ f. All (λ bay. bay ≡ None) f.bays) }
         ensures unclaimed { IfOk result (λ f. All (λ claim. claim ≡ None) f.claims) }
         ensures apart { IfOk result (λ f. AreApart f.claims) }
         ensures next { IfOk result (λ f. (f.next ≡ 0) × (f.last ≡ 255)) }
@@ -64,13 +64,13 @@ impl<D: Folder + Drop> LineFiles<D> {
         let Ok(claims) = Claims::new(alloc) else {
             return Err(folder);
         };
-        let Ok(seats) = Seats::new(alloc) else {
+        let Ok(bays) = Bays::new(alloc) else {
             return Err(folder);
         };
         Ok(LineFiles {
             folder,
-            seats,
-            place: NextSeat::new(),
+            bays,
+            place: NextBay::new(),
             claims,
             reasons: Reasons::new(),
         })
@@ -87,12 +87,12 @@ impl<D: Folder + Drop> LineFiles<D> {
     pub fn read_at(&mut self, line: Line, at: u64, buf: &mut [u8]) -> Result<usize, Fault>
         ensures bound { ReadsAtMost result buf.new }
         ensures file { ReadsFile D.does self.old self.new line.call line.side at result buf.new }
-        ensures freed { FreesSeats D.does self.old self.new line.call line.side Reading at }
+        ensures freed { FreesBays D.does self.old self.new line.call line.side Reading at }
         ensures apart { AreApart self.new.claims }
         ensures others { OthersKeep self.old.claims self.new.claims (index_of_line line.call line.side) }
     {
-        let seat = self.seat(line, Access::Reading, at)?;
-        self.seats.read(&self.folder, seat, buf)
+        let bay = self.bay(line, Access::Reading, at)?;
+        self.bays.read(&self.folder, bay, buf)
     }
 
     /// Writes a prefix of `bytes`, at least one octet, to a line's file from octet `at` on.
@@ -100,51 +100,51 @@ impl<D: Folder + Drop> LineFiles<D> {
         ensures some { IfOk result (λ n. 0 < n) }
         ensures bound { WritesAtMost result bytes.now }
         ensures file { WritesFile D.does self.old self.new line.call line.side at result bytes.now }
-        ensures freed { FreesSeats D.does self.old self.new line.call line.side Writing at }
+        ensures freed { FreesBays D.does self.old self.new line.call line.side Writing at }
         ensures apart { AreApart self.new.claims }
         ensures others { OthersKeep self.old.claims self.new.claims (index_of_line line.call line.side) }
     {
-        let seat = self.seat(line, Access::Writing, at)?;
-        self.seats.write(&mut self.folder, seat, bytes)
+        let bay = self.bay(line, Access::Writing, at)?;
+        self.bays.write(&mut self.folder, bay, bytes)
     }
 
-    // The seat of the line's file, at octet `at`. If the file isn't open there, it is opened.
-    fn seat(&mut self, line: Line, access: Access, at: u64) -> Result<u8, Fault>
-        ensures found { IfOk result (λ seat. IsSomeAnd (in_seat self.new.seats seat) (IsFound D.does self.old self.new.folder self.new.claims line.call line.side access at)) }
+    // The bay of the line's file, at octet `at`. If the file isn't open there, it is opened.
+    fn bay(&mut self, line: Line, access: Access, at: u64) -> Result<u8, Fault>
+        ensures found { IfOk result (λ bay. IsSomeAnd (in_bay self.new.bays bay) (IsFound D.does self.old self.new.folder self.new.claims line.call line.side access at)) }
         ensures failed { IfErr result (λ fault. IsNowOpened D.does self.old self.new.folder self.new.claims line.call line.side access at (Err fault)) }
-        ensures open { MatchResult result (λ seat. OpenAfter self.old.seats self.new.seats line.call line.side (in_seat self.new.seats seat))
-            (λ _. OpenAfter self.old.seats self.new.seats line.call line.side None) }
-        ensures freed { FreesSeats D.does self.old self.new line.call line.side access at }
+        ensures open { MatchResult result (λ bay. OpenAfter self.old.bays self.new.bays line.call line.side (in_bay self.new.bays bay))
+            (λ _. OpenAfter self.old.bays self.new.bays line.call line.side None) }
+        ensures freed { FreesBays D.does self.old self.new line.call line.side access at }
         ensures apart { AreApart self.new.claims }
         ensures others { OthersKeep self.old.claims self.new.claims (index_of_line line.call line.side) }
     {
-        match self.seats.find(line, access, at) {
-            Some(seat) => Ok(seat),
+        match self.bays.find(line, access, at) {
+            Some(bay) => Ok(bay),
             None => self.open(line, access, at),
         }
     }
 
-    // Frees the next seat, and opens a line's file into it.
+    // Frees the next bay, and opens a line's file into it.
     // It isn't inlined: its room on the stack would be cleared at each read and write of an open file.
     #[cold]
     #[inline(never)]
     fn open(&mut self, line: Line, access: Access, at: u64) -> Result<u8, Fault>
-        requires { IsFileOf self.old.seats line.call line.side None }
-        ensures stands { IfOk result (λ seat. IsOpenAt (in_seat self.new.seats seat) line.call line.side access at) }
-        ensures opened { IfOk result (λ seat. IsSomeAnd (in_seat self.new.seats seat)
+        requires { IsFileOf self.old.bays line.call line.side None }
+        ensures stands { IfOk result (λ bay. IsOpenAt (in_bay self.new.bays bay) line.call line.side access at) }
+        ensures opened { IfOk result (λ bay. IsSomeAnd (in_bay self.new.bays bay)
             (λ o. Opens D.does self.old.folder self.new.folder self.old.claims self.new.claims line.call line.side access at (Ok o.file))) }
         ensures failed { IfErr result (λ fault. Opens D.does self.old.folder self.new.folder self.old.claims self.new.claims line.call line.side access at (Err fault)) }
-        ensures open { MatchResult result (λ seat. OpenAfter self.old.seats self.new.seats line.call line.side (in_seat self.new.seats seat))
-            (λ _. OpenAfter self.old.seats self.new.seats line.call line.side None) }
+        ensures open { MatchResult result (λ bay. OpenAfter self.old.bays self.new.bays line.call line.side (in_bay self.new.bays bay))
+            (λ _. OpenAfter self.old.bays self.new.bays line.call line.side None) }
         ensures freed { FreesNext D.does self.old self.new line.call line.side access at }
         ensures apart { AreApart self.new.claims }
         ensures others { OthersKeep self.old.claims self.new.claims (index_of_line line.call line.side) }
     {
-        self.seats.free(self.place.next);
+        self.bays.free(self.place.next);
         let file = self.open_or_lessen(line, access, at)?;
-        let seat = self.place.next;
-        self.seats.put(
-            seat,
+        let bay = self.place.next;
+        self.bays.put(
+            bay,
             OpenFile {
                 file,
                 line,
@@ -153,15 +153,15 @@ impl<D: Folder + Drop> LineFiles<D> {
             },
         );
         self.place.pass();
-        Ok(seat)
+        Ok(bay)
     }
 
     // Opens a line's file. If no descriptor is left, another file is closed first.
     fn open_or_lessen(&mut self, line: Line, access: Access, at: u64) -> Result<D::File, Fault>
-        ensures seats { OnlyCloses self.old.seats self.new.seats }
+        ensures bays { OnlyCloses self.old.bays self.new.bays }
         ensures held { HoldsOrLessens D.does self.old self.new line.call line.side access at }
         ensures opens { Opens D.does self.old.folder self.new.folder self.old.claims self.new.claims line.call line.side access at result }
-        ensures number { length self.new.seats ≡ length self.old.seats }
+        ensures number { length self.new.bays ≡ length self.old.bays }
         ensures apart { AreApart self.new.claims }
         ensures others { OthersKeep self.old.claims self.new.claims (index_of_line line.call line.side) }
     {
@@ -169,7 +169,7 @@ impl<D: Folder + Drop> LineFiles<D> {
             Err(Fault::System(fault)) if lacks_descriptor(&fault) => {
                 self.place.lessen();
                 let before = self.place.next;
-                self.seats.free(before);
+                self.bays.free(before);
                 open_at(&mut self.folder, &mut self.claims, line, access, at)
             }
             opened => opened,
@@ -191,8 +191,8 @@ impl<D: Folder + Eprint + Drop> LineFiles<D> {
     }
 }
 
-// Opens a line's file at this octet, unless it is another line's. If it is, it is closed as it was opened, and removed if it was
-// made only now.
+// Opens a line's file at this octet, unless it is another line's. If it is, it is closed as it was opened, and removed
+// if it was made only now.
 fn open_at<D: Folder>(
     folder: &mut D,
     claims: &mut Claims<D>,
@@ -219,7 +219,7 @@ fn open_at<D: Folder>(
     if let Err(place) = claims.take(folder, line, claim, &metadata, is_new) {
         folder.close(file);
         if is_new && metadata.len() == 0 {
-            unmake(folder, claims, line, claim.file);
+            remove(folder, line);
         }
         return Err(Fault::Shared(place));
     }
@@ -232,18 +232,15 @@ fn open_at<D: Folder>(
     }
 }
 
-// Removes the file that was made for a line.
-fn unmake<D: Folder>(folder: &mut D, claims: &mut Claims<D>, line: Line, file: FileIdentity)
-    ensures removed { D.does.removed folder.old folder.new (file_name line.call line.side) }
-    ensures same { claims.new ≡ claims.old }
+// Removes the file that was made for a line. If that fails, an empty file is left.
+fn remove<D: Folder>(folder: &mut D, line: Line)
+    ensures { D.does.removed folder.old folder.new (file_name line.call line.side) }
 {
-    if folder.remove(name_of(line).as_str()).is_ok() {
-        claims.forget(file);
-    }
+    let _ = folder.remove(name_of(line).as_str());
 }
 
-// Opens a line's file, and says whether it was made just now. A missing file is made if it is opened for writing and nothing has
-// been written yet. One that something else makes between the two openings is taken for made here.
+// Opens a line's file, and says whether it was made just now. A missing file is made if it is opened for writing and
+// nothing has been written yet. One that something else makes between the two openings is taken for made here.
 fn open_or_make<D: Folder>(
     folder: &mut D,
     line: Line,

@@ -4,7 +4,7 @@ ghost use Rattle.std.specs.Prelude.{◌≡◌, ◌≢◌, ◌+◌, ℕ, IfSome, 
 ghost use Rattle.call_number.specs.declared.TheConstants.{LAST_CALL};
 ghost use Rattle.trau_io.specs.Indices.{index_of_line};
 ghost use Rattle.trau_files.specs.Files.{file_name};
-ghost use Rattle.trau_files.specs.Recordings.{AreRecordings, AreSearched, IsIncoming, IsMissing, IsNoRecording, IsRecording, LeadsNowhere, noted_at};
+ghost use Rattle.trau_files.specs.Recordings.{AreLed, AreRecordings, AreSearched, IsIncoming, IsLed, IsMissing, IsNoRecording, IsRecording, LeadsNowhere, LeadsTo, noted_at};
 
 use super::claims::FileIdentity;
 use super::name::name_of;
@@ -48,8 +48,8 @@ impl<D: Folder> Recordings<D> {
         })
     }
 
-    /// The index of an incoming line that has this file. If the file was made just now, its making may have given one to a line
-    /// that had none, so the folder is searched again.
+    /// The index of an incoming line that has this file. If the file was made just now, its making may have given it to
+    /// any line, so the folder is searched anew: also for names whose file was removed since.
     pub fn place_of(&mut self, folder: &D, file: FileIdentity, is_new: bool) -> Option<usize>
         ensures found { IfSome result (λ other. IsRecording D.does other file) }
         ensures none { result ≡ None → IsNoRecording D.does folder.now is_new file }
@@ -71,22 +71,26 @@ impl<D: Folder> Recordings<D> {
         None
     }
 
-    /// Forgets a file, since it was removed. The next search begins anew.
-    pub fn forget(&mut self, file: FileIdentity) {
+    // Forgets all files.
+    fn clear(&mut self)
+        ensures { (k : ℕ) (file : FileIdentity) → noted_at self.new k ≢ Some file }
+    {
         self.is_searched = false;
         for place in 0..LINE_INDICES {
-            if self.of_lines[place] == Some(file) {
-                self.of_lines[place] = None;
-            }
+            self.of_lines[place] = None;
         }
     }
 
     // Searches the folder, unless that was done before and no file was made since.
     fn refresh(&mut self, folder: &D, is_new: bool)
         ensures recordings { AreRecordings D.does self.new }
+        ensures led { AreLed (IsLed D.does folder.now is_new) self.new }
         ensures searched { AreSearched (IsMissing D.does folder.now is_new) self.new (LAST_CALL + 1) }
     {
-        if is_new || !self.is_searched {
+        if is_new {
+            self.clear();
+            self.search(folder);
+        } else if !self.is_searched {
             self.search(folder);
         }
     }
@@ -94,6 +98,7 @@ impl<D: Folder> Recordings<D> {
     // Up and Pcm of each call, unless their files are known.
     fn search(&mut self, folder: &D)
         ensures recordings { AreRecordings D.does self.new }
+        ensures led { AreLed (LeadsTo D.does folder.now) self.old → AreLed (LeadsTo D.does folder.now) self.new }
         ensures searched { AreSearched (LeadsNowhere D.does folder.now) self.new (LAST_CALL + 1) }
     {
         for call in 1..=LAST_CALL {
@@ -107,6 +112,7 @@ impl<D: Folder> Recordings<D> {
     fn note(&mut self, folder: &D, call: u32, side: Side)
         requires { IsIncoming call side }
         ensures recordings { AreRecordings D.does self.new }
+        ensures led { AreLed (LeadsTo D.does folder.now) self.old → AreLed (LeadsTo D.does folder.now) self.new }
         ensures looked { noted_at self.new (index_of_line call side) ≡ None → LeadsNowhere D.does folder.now (file_name call side) }
         ensures others { (k : ℕ) → k ≢ index_of_line call side → noted_at self.new k ≡ noted_at self.old k }
     {

@@ -1,11 +1,14 @@
-use Rattle.std.proofs.Common.{◌∙◌, sym, ap, subst}
+use Rattle.std.proofs.Common.{◌∙◌, sym, ap, subst, rules, ℕ, ℤ, List, FitsSigned, w16, to_z, of_z}
+use Rattle.std.proofs.lemmas.Int.{to_z-of_z}
 use Rattle.std.specs.Prelude.{is_some}
 use Rattle.switchboard.specs.declared.act.Act.{Act}
 use Rattle.switchboard.specs.declared.act.Act.TheVariants as act
-use Rattle.farm_rounds.specs.Acts.{ActFits, Applied}
+use Rattle.farm_rounds.specs.declared.open.OpenCall.{OpenCall}
+use Rattle.farm_rounds.specs.Acts.{ActFits, Applied, set_by}
 use Rattle.farm_rounds.specs.Opens.{opens_in, calls_of}
-use Rattle.farm_rounds.proofs.Changing.{listed_open, listed_from, bridged_applied, unbridged_applied, set_applied, set_open}
-use Rattle.farm_rounds.proofs.Mutual.{partner_open, still_paired, sound_after}
+use Rattle.farm_rounds.specs.Opened.{IsChanged}
+use Rattle.farm_rounds.proofs.Orders.Acts.{kept_with, listed_open, listed_from, bridged_applied, unbridged_applied, level_applied, mode_applied}
+use Rattle.farm_rounds.proofs.Orders.Partners.{partner_open, still_paired, sound_after}
 use Rattle.farm_rounds.proofs.acts.change.Goals as goal
 
 -- ---- two calls are bridged
@@ -102,18 +105,47 @@ returns-in-Bridged-clause-applied c =
 
 -- ---- a call is set
 
-pub set-requires-clause-there : goal.set-requires-clause-there
-set-requires-clause-there c =
-    listed_open c.args.live.now (opens_in c.args.calls.now) c.in-LevelSet.call c.requires.sound.1.listed
-    (set_open (calls_of c.args.calls.now) c.args.act.now c.in-LevelSet.call c.in-LevelSet.is c.requires.fits)
+pub set_level-requires-clause-there : goal.set_level-requires-clause-there
+set_level-requires-clause-there c =
+    let fits = subst (ActFits (calls_of c.args.calls.now)) c.in-LevelSet.is c.requires.fits in
+    listed_open c.args.live.now (opens_in c.args.calls.now) c.in-LevelSet.call c.requires.sound.1.listed fits.0
+
+abbrev IsSet : ℕ → ℤ → List OpenCall → List OpenCall → Type 0
+IsSet call level before now = IsChanged call (λ k. kept_with (set_by (act.LevelSet call level) k.call) k.partner) before now
+
+-- the level that was passed on is the level
+passed : (call : ℕ) (level : ℤ) (before now : List OpenCall) → FitsSigned w16 level → IsSet call (to_z w16 (of_z w16 level)) before now → IsSet call level before now
+passed call level before now fits set = subst (λ (l : ℤ). IsSet call l before now) (to_z-of_z w16 level fits) set
 
 pub returns-in-LevelSet-clause-applied : goal.returns-in-LevelSet-clause-applied
 returns-in-LevelSet-clause-applied c =
-    set_applied c.args.act.now c.in-LevelSet.call (opens_in c.args.calls.now) (opens_in c.set.new.calls) c.in-LevelSet.is c.set.ensures
+    subst (λ (x : Act). Applied x (calls_of c.args.calls.now) (calls_of c.set_level.new.calls)) (sym c.in-LevelSet.is)
+    (level_applied c.in-LevelSet.call c.in-LevelSet.level (opens_in c.args.calls.now) (opens_in c.set_level.new.calls)
+    (passed c.in-LevelSet.call c.in-LevelSet.level _ _ (search rules) c.set_level.ensures))
 
 pub returns-in-LevelSet-clause-sound : goal.returns-in-LevelSet-clause-sound
 returns-in-LevelSet-clause-sound c most s =
     let before = opens_in c.args.calls.now in
-    let now = opens_in c.set.new.calls in
-    sound_after most c.args.live.now c.args.act.now before now c.requires.fits s
-    (set_applied c.args.act.now c.in-LevelSet.call before now c.in-LevelSet.is c.set.ensures) c.set.ensures.numbers (c.set.ensures.each most s.each)
+    let now = opens_in c.set_level.new.calls in
+    let fits = subst (ActFits (calls_of c.args.calls.now)) c.in-LevelSet.is c.requires.fits in
+    sound_after most c.args.live.now (act.LevelSet c.in-LevelSet.call c.in-LevelSet.level) before now fits s
+    (level_applied c.in-LevelSet.call c.in-LevelSet.level before now
+    (passed c.in-LevelSet.call c.in-LevelSet.level before now (search rules) c.set_level.ensures)) c.set_level.ensures.numbers (c.set_level.ensures.each most s.each)
+
+pub set_dtx-requires-clause-there : goal.set_dtx-requires-clause-there
+set_dtx-requires-clause-there c =
+    let fits = subst (ActFits (calls_of c.args.calls.now)) c.in-DtxSet.is c.requires.fits in
+    listed_open c.args.live.now (opens_in c.args.calls.now) c.in-DtxSet.call c.requires.sound.1.listed fits.0
+
+pub returns-in-DtxSet-clause-applied : goal.returns-in-DtxSet-clause-applied
+returns-in-DtxSet-clause-applied c =
+    subst (λ (x : Act). Applied x (calls_of c.args.calls.now) (calls_of c.set_dtx.new.calls)) (sym c.in-DtxSet.is)
+    (mode_applied c.in-DtxSet.call c.in-DtxSet.mode (opens_in c.args.calls.now) (opens_in c.set_dtx.new.calls) c.set_dtx.ensures)
+
+pub returns-in-DtxSet-clause-sound : goal.returns-in-DtxSet-clause-sound
+returns-in-DtxSet-clause-sound c most s =
+    let before = opens_in c.args.calls.now in
+    let now = opens_in c.set_dtx.new.calls in
+    sound_after most c.args.live.now (act.DtxSet c.in-DtxSet.call c.in-DtxSet.mode) before now
+    (subst (ActFits (calls_of c.args.calls.now)) c.in-DtxSet.is c.requires.fits) s
+    (mode_applied c.in-DtxSet.call c.in-DtxSet.mode before now c.set_dtx.ensures) c.set_dtx.ensures.numbers (c.set_dtx.ensures.each most s.each)

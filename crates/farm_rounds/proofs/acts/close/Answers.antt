@@ -13,12 +13,12 @@ use Rattle.farm_rounds.specs.Calls.{Kept, partner_in}
 use Rattle.farm_rounds.specs.Acts.{Applied}
 use Rattle.farm_rounds.specs.Opens.{opens_in, calls_of, kept_of, AreOpen}
 use Rattle.farm_rounds.specs.Opened.{open_at, AreListed, IsReleased}
-use Rattle.farm_rounds.proofs.Boxes.{at_read, opens_long}
-use Rattle.farm_rounds.proofs.Changing.{numbers_of, listed_open, listed_from}
-use Rattle.farm_rounds.proofs.Mutual.{partner_open}
-use Rattle.farm_rounds.proofs.Edited.{remove_map}
-use Rattle.farm_rounds.proofs.Placed.{listed_long, call_at, leg_found}
-use Rattle.farm_rounds.proofs.Ending.{released_numbers, ended_applied, ended_sound, ended_same}
+use Rattle.farm_rounds.proofs.Places.Boxes.{at_read, opens_long}
+use Rattle.farm_rounds.proofs.Orders.Acts.{numbers_of, listed_open, listed_from}
+use Rattle.farm_rounds.proofs.Orders.Partners.{partner_open}
+use Rattle.farm_rounds.proofs.Orders.ByNumber.{remove_map}
+use Rattle.farm_rounds.proofs.Places.Placed.{listed_long, call_at, leg_found}
+use Rattle.farm_rounds.proofs.Orders.Close.{released_numbers, ended_applied, ended_sound, ended_same}
 use Rattle.farm_rounds.proofs.acts.close.Goals as goal
 
 pub index_of-at-requires-clause-present : goal.index_of-at-requires-clause-present

@@ -2,9 +2,9 @@ use Rattle.std.proofs.Common.{◌≡◌, ◌∙◌, ap, None}
 use Rattle.farm_rounds.specs.Calls.{Call}
 use Rattle.farm_rounds.specs.Acts.{parted_call}
 use Rattle.farm_rounds.specs.Opened.{open_at}
-use Rattle.farm_rounds.proofs.Boxes.{at_read}
-use Rattle.farm_rounds.proofs.Changing.{kept_with, kept_same, listed_within, first_at, up_at, down_at, changed_there}
-use Rattle.farm_rounds.proofs.Placed.{paired_at}
+use Rattle.farm_rounds.proofs.Places.Boxes.{at_read}
+use Rattle.farm_rounds.proofs.Orders.Acts.{kept_with, kept_same, listed_within, first_at, up_at, down_at, changed_there}
+use Rattle.farm_rounds.proofs.Places.Placed.{paired_at}
 use Rattle.farm_rounds.proofs.acts.end_bridge.Goals as goal
 
 pub bounds-calls-index_of : goal.bounds-calls-index_of

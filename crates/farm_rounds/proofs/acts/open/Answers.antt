@@ -6,9 +6,9 @@ use Rattle.farm_rounds.specs.declared.open.OpenCall.{OpenCall}
 use Rattle.farm_rounds.specs.Numbers.{IsRising, is_among}
 use Rattle.farm_rounds.specs.Acts.{Applied}
 use Rattle.farm_rounds.specs.Opens.{opens_in, calls_of, kept_of, new_open, AreOpen}
-use Rattle.farm_rounds.proofs.Changing.{among_open}
-use Rattle.farm_rounds.proofs.Edited.{insert_map}
-use Rattle.farm_rounds.proofs.Opening.{opened_applied, opened_sound}
+use Rattle.farm_rounds.proofs.Orders.Acts.{among_open}
+use Rattle.farm_rounds.proofs.Orders.ByNumber.{insert_map}
+use Rattle.farm_rounds.proofs.Orders.Open.{opened_applied, opened_sound}
 use Rattle.farm_rounds.proofs.acts.open.Goals as goal
 
 pub insertion_index-at-requires-clause-absent : goal.insertion_index-at-requires-clause-absent

@@ -6,9 +6,9 @@ use Rattle.farm_rounds.specs.Calls.{Call}
 use Rattle.farm_rounds.specs.Acts.{bridged_call}
 use Rattle.farm_rounds.specs.Opens.{opens_in, kept_of, IsOpenCall}
 use Rattle.farm_rounds.specs.Opened.{open_at, no_open}
-use Rattle.farm_rounds.proofs.Boxes.{at_read, opens_long}
-use Rattle.farm_rounds.proofs.Acting.{changed_at}
-use Rattle.farm_rounds.proofs.Changing.{kept_with, listed_within}
+use Rattle.farm_rounds.proofs.Places.Boxes.{at_read, opens_long}
+use Rattle.farm_rounds.proofs.Orders.InPlace.{changed_at}
+use Rattle.farm_rounds.proofs.Orders.Acts.{kept_with, listed_within}
 use Rattle.farm_rounds.proofs.acts.start_bridge.Goals as goal
 
 pub bounds-calls-index_of : goal.bounds-calls-index_of

@@ -4,7 +4,7 @@ use Rattle.std.proofs.lemmas.List.Elements.{All-get_or}
 use Rattle.farm_rounds.specs.declared.open.OpenCall.{OpenCall}
 use Rattle.farm_rounds.specs.Opens.{opens_in, open_begun}
 use Rattle.farm_rounds.specs.Opened.{ArePaired, IsReady, standing_of_open, standings, end_beside, end_with, no_open, open_at}
-use Rattle.farm_rounds.proofs.Boxes.{changed_next, changed_all, at_read, at_set, at_other, opens_long, standings_set}
+use Rattle.farm_rounds.proofs.Places.Boxes.{changed_next, changed_all, at_read, at_set, at_other, opens_long, standings_set}
 use Rattle.farm_rounds.proofs.calls.begin_all.Goals as goal
 
 pub bridge_end-end-requires-clause-paired : goal.bridge_end-end-requires-clause-paired

@@ -1,7 +1,7 @@
 use Rattle.std.proofs.Common.{◌≡◌}
 use Rattle.farm_rounds.specs.Opens.{open_begun}
 use Rattle.farm_rounds.specs.Opened.{standings, end_beside}
-use Rattle.farm_rounds.proofs.Boxes.{AreChanged}
+use Rattle.farm_rounds.proofs.Places.Boxes.{AreChanged}
 use Rattle.farm_rounds.proofs.calls.begin_all.Given as goal
 
 abbrev pub invariant-loop-at : goal.invariant-loop-at

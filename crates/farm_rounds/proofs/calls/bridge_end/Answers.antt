@@ -6,7 +6,7 @@ use Rattle.std.specs.Global.{Box}
 use Rattle.farm_rounds.specs.declared.open.OpenCall.{OpenCall}
 use Rattle.farm_rounds.specs.Numbers.{is_among}
 use Rattle.farm_rounds.specs.Opened.{ArePaired, Standing, standings, standing_of, no_standing, end_with, open_at}
-use Rattle.farm_rounds.proofs.Boxes.{at_read, standing_at, standings_long, numbered}
+use Rattle.farm_rounds.proofs.Places.Boxes.{at_read, standing_at, standings_long, numbered}
 use Rattle.farm_rounds.proofs.calls.bridge_end.Goals as goal
 
 -- a place in the list of numbers is one among the calls

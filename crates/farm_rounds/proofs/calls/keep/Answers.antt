@@ -3,7 +3,7 @@ use Rattle.std.specs.Global.{Box}
 use Rattle.std.proofs.lemmas.List.Elements.{filter_from_retain}
 use Rattle.farm_rounds.specs.declared.open.OpenCall.{OpenCall}
 use Rattle.farm_rounds.specs.Opens.{opens_in, goes_on_open}
-use Rattle.farm_rounds.proofs.Boxes.{kept_values}
+use Rattle.farm_rounds.proofs.Places.Boxes.{kept_values}
 use Rattle.farm_rounds.proofs.calls.keep.Goals as goal
 
 pub returns-clause-calls : goal.returns-clause-calls

@@ -10,8 +10,8 @@ use Rattle.farm_rounds.specs.declared.tally.Tally.{Tally}
 use Rattle.farm_rounds.specs.Memory.{no_tally, tally_in}
 use Rattle.farm_rounds.specs.Opens.{opens_in, goes_on_open}
 use Rattle.farm_rounds.specs.Opened.{no_open, open_at}
-use Rattle.farm_rounds.proofs.Boxes.{at_read, opens_long}
-use Rattle.farm_rounds.proofs.Tallied.{tally_more, tally_on, tally_ended}
+use Rattle.farm_rounds.proofs.Places.Boxes.{at_read, opens_long}
+use Rattle.farm_rounds.proofs.Drain.Tallies.{tally_more, tally_on, tally_ended}
 use Rattle.farm_rounds.proofs.calls.keep_tallies.Goals as goal
 use Rattle.farm_rounds.proofs.calls.keep_tallies.Goals.{then-not-goes_on, else-not-goes_on}
 

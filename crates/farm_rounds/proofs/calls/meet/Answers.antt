@@ -3,7 +3,7 @@ use Rattle.std.specs.Global.{Box}
 use Rattle.call_pair.specs.Phases.{periods_left}
 use Rattle.farm_rounds.specs.declared.open.OpenCall.{OpenCall}
 use Rattle.farm_rounds.specs.Opened.{open_at}
-use Rattle.farm_rounds.proofs.Boxes.{front_read, back_long, back_read, front_set, front_other, back_set, back_other, heard_same, told_same}
+use Rattle.farm_rounds.proofs.Places.Boxes.{front_read, back_long, back_read, front_set, front_other, back_set, back_other, heard_same, told_same}
 use Rattle.farm_rounds.proofs.calls.meet.Goals as goal
 
 -- ---- the call stands before its partner

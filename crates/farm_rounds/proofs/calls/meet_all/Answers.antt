@@ -5,8 +5,8 @@ use Rattle.call_pair.specs.Phases.{periods_left, turn_down}
 use Rattle.farm_rounds.specs.declared.open.OpenCall.{OpenCall}
 use Rattle.farm_rounds.specs.Opens.{opens_in, with_job}
 use Rattle.farm_rounds.specs.Opened.{met_beside, open_at}
-use Rattle.farm_rounds.proofs.Boxes.{changed_next, changed_all, at_read, at_set, at_other}
-use Rattle.farm_rounds.proofs.Meeting.{AreMet, next_present, next_meets, next_heard, next_alone, met_alone}
+use Rattle.farm_rounds.proofs.Places.Boxes.{changed_next, changed_all, at_read, at_set, at_other}
+use Rattle.farm_rounds.proofs.Work.Meeting.{AreMet, next_present, next_meets, next_heard, next_alone, met_alone}
 use Rattle.farm_rounds.proofs.calls.meet_all.Goals as goal
 use Rattle.farm_rounds.proofs.calls.meet_all.Goals.{in-Some, in-None}
 

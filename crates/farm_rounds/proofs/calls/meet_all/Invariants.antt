@@ -1,4 +1,4 @@
-use Rattle.farm_rounds.proofs.Meeting.{AreMet}
+use Rattle.farm_rounds.proofs.Work.Meeting.{AreMet}
 use Rattle.farm_rounds.proofs.calls.meet_all.Given as goal
 
 abbrev pub invariant-loop-at : goal.invariant-loop-at

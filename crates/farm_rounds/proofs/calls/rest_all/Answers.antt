@@ -1,7 +1,7 @@
 use Rattle.std.proofs.Common.{◌<◌, length, ap, ◌∙◌, refl, arith}
 use Rattle.std.proofs.lemmas.List.{length-set}
 use Rattle.farm_rounds.specs.Opens.{open_rested}
-use Rattle.farm_rounds.proofs.Boxes.{changed_next, changed_all, at_read, at_set, at_other}
+use Rattle.farm_rounds.proofs.Places.Boxes.{changed_next, changed_all, at_read, at_set, at_other}
 use Rattle.farm_rounds.proofs.calls.rest_all.Goals as goal
 
 pub loop-call-preserved : goal.loop-call-preserved

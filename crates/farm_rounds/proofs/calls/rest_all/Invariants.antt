@@ -1,5 +1,5 @@
 use Rattle.farm_rounds.specs.Opens.{open_rested}
-use Rattle.farm_rounds.proofs.Boxes.{AreChanged}
+use Rattle.farm_rounds.proofs.Places.Boxes.{AreChanged}
 use Rattle.farm_rounds.proofs.calls.rest_all.Given as goal
 
 abbrev pub invariant-loop-call : goal.invariant-loop-call

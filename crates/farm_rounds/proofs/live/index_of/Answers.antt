@@ -1,6 +1,6 @@
 use Rattle.std.proofs.Common.{◌∙◌, refl, sym}
 use Rattle.std.proofs.lemmas.Bool.{false≢true}
-use Rattle.farm_rounds.proofs.Rising.{place_found, place_free, not_there}
+use Rattle.farm_rounds.proofs.Places.Rising.{place_found, place_free, not_there}
 use Rattle.farm_rounds.proofs.live.index_of.Goals as goal
 
 pub returns-in-Ok-clause-within : goal.returns-in-Ok-clause-within

@@ -3,7 +3,7 @@ use Rattle.std.specs.List.Sorted.{IsBinarySearchResult}
 use Rattle.std.specs.Ordering.{nat_cmp}
 use Rattle.std.proofs.lemmas.Bool.{false≢true}
 use Rattle.farm_rounds.specs.Numbers.{IsRising, is_among}
-use Rattle.farm_rounds.proofs.Rising.{place_found, place_free, there}
+use Rattle.farm_rounds.proofs.Places.Rising.{place_found, place_free, there}
 use Rattle.farm_rounds.proofs.live.insertion_index.Goals as goal
 
 -- a search for a number that isn't there finds none

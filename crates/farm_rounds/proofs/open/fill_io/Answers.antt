@@ -6,18 +6,18 @@ use Rattle.trau_io.specs.Lines.{LineState}
 use Rattle.call_pair.specs.Memory.{IoMemory, HaveRoom}
 use Rattle.call_pair.specs.contracts.io.LegIo.{the_view}
 use Rattle.round_lines.specs.Memory.{LinesMemory}
-use Rattle.round_lines.specs.Seats.{Fills, seat_from}
-use Rattle.farm_rounds.specs.Opens.{seat_with}
+use Rattle.round_lines.specs.Portions.{Fills, portion_from}
+use Rattle.farm_rounds.specs.Opens.{portion_with}
 use Rattle.farm_rounds.proofs.open.fill_io.Goals as goal
 
 -- what was read, in the buffers where they are
 fills_read : (a b : Side → LineState) (p q : LinesMemory) (io jo : IoMemory) (up pcm up' pcm' : List ℕ) → up ≡ io.up → pcm ≡ io.pcm →
-    jo ≡ record io { up = up'; pcm = pcm' } → Fills a b (seat_from p up pcm io.down io.out) (seat_from q up' pcm' io.down io.out) →
-    Fills a b (seat_with p io) (seat_with q jo)
+    jo ≡ record io { up = up'; pcm = pcm' } → Fills a b (portion_from p up pcm io.down io.out) (portion_from q up' pcm' io.down io.out) →
+    Fills a b (portion_with p io) (portion_with q jo)
 fills_read a b p q io jo up pcm up' pcm' eu ep e f =
-    subst (λ (j : IoMemory). Fills a b (seat_with p io) (seat_with q j)) (sym e)
-    (subst (λ (us : List ℕ). Fills a b (seat_from p us io.pcm io.down io.out) (seat_from q up' pcm' io.down io.out)) eu
-    (subst (λ (ps : List ℕ). Fills a b (seat_from p up ps io.down io.out) (seat_from q up' pcm' io.down io.out)) ep f))
+    subst (λ (j : IoMemory). Fills a b (portion_with p io) (portion_with q j)) (sym e)
+    (subst (λ (us : List ℕ). Fills a b (portion_from p us io.pcm io.down io.out) (portion_from q up' pcm' io.down io.out)) eu
+    (subst (λ (ps : List ℕ). Fills a b (portion_from p up ps io.down io.out) (portion_from q up' pcm' io.down io.out)) ep f))
 
 -- buffers of the same lengths have the same room
 same_room : (up pcm up' pcm' out down : List ℕ) (given : ℕ) → length up' ≡ length up → length pcm' ≡ length pcm → HaveRoom up pcm out down given →

@@ -1,11 +1,11 @@
 use Rattle.std.proofs.Common.{rules, ◌≡◌, refl, sym, ap, ◌∙◌, subst, ℕ, ◌+◌, ◌<◌, ◌≤◌, Option, None, Some, length, slice_index, arith}
-use Rattle.round_lines.specs.Seats.{SeatMemory}
+use Rattle.round_lines.specs.Portions.{PortionMemory}
 use Rattle.farm_rounds.specs.Calls.{Call, call_in}
 use Rattle.farm_rounds.specs.Memory.{FarmMemory}
-use Rattle.farm_rounds.specs.RoundHistories.{seat_for}
+use Rattle.farm_rounds.specs.RoundHistories.{portion_for}
 use Rattle.farm_rounds.specs.Rounds.{IsUnread}
 use Rattle.std.specs.List.{filter_map}
-use Rattle.round_lines.specs.Rounds.{seat_at, seat_end}
+use Rattle.round_lines.specs.Rounds.{portion_at, portion_end}
 use Rattle.trau_io.specs.declared.line.Side.{Side}
 use Rattle.trau_io.specs.Lines.{LineState}
 use Rattle.switchboard.specs.State.{State, orders_of}
@@ -43,7 +43,7 @@ use Rattle.farm_run.proofs.clock.work_round.Given.{Over}
 front : (g : Over) (c : goal.After-ends g) →
     FilledRound c.args.stage.clock c.args.periods c.args.stage.farm
     (g.T.Trunk.lines c.args.trunk.now) (g.T.Trunk.lines c.fill.new.trunk)
-    c.in_ok-round.round.seats c.fill.new.self.seats c.work-worked.result.seats c.ends.result.now
+    c.in_ok-round.round.portions c.fill.new.self.portions c.work-worked.result.portions c.ends.result.now
 front g c =
     let plan = c.in_ok-round.ensures in
     let fill = c.fill.ensures in
@@ -51,29 +51,29 @@ front g c =
     record {
       live = c.requires.live;
       number = plan.number;
-      seats = plan.seats;
+      portions = plan.portions;
       fills = fill.fills;
       filled_number = fill.number;
       worked_number = work.number;
       worked_rising = work.rising;
       places = work.places;
-      told = c.ends.ensures ∙ work.ends ∙ ap (λ (t : ℕ). filter_map (seat_end t) c.work-worked.result.seats)
+      told = c.ends.ensures ∙ work.ends ∙ ap (λ (t : ℕ). filter_map (portion_end t) c.work-worked.result.portions)
           (ap (λ (p : RoundMemory). p.start) fill.kept ∙ plan.start);
     }
 
--- a seat that was planned has nothing of its incoming lines
-unread : (periods c : ℕ) (call : Option Call) → IsUnread (seat_for periods c call).lines
+-- a portion that was planned has nothing of its incoming lines
+unread : (periods c : ℕ) (call : Option Call) → IsUnread (portion_for periods c call).lines
 unread periods c None = (refl, refl)
 unread periods c (Some call) = (refl, refl)
 
 pub fill-requires : goal.fill-requires
 fill-requires g c =
     let plan = c.in_ok-round.ensures in
-    let seats = c.in_ok-round.round.seats in
+    let portions = c.in_ok-round.round.portions in
     let live = c.args.stage.farm.live in
     let calls = c.args.stage.farm.calls in
-    let once : (k : ℕ) → k < length seats → IsUnread (seat_at seats k).lines = λ k within.
-    subst (λ (s : SeatMemory). IsUnread s.lines) (sym (plan.seats k (subst (λ (n : ℕ). k < n) plan.number within)))
+    let once : (k : ℕ) → k < length portions → IsUnread (portion_at portions k).lines = λ k within.
+    subst (λ (s : PortionMemory). IsUnread s.lines) (sym (plan.portions k (subst (λ (n : ℕ). k < n) plan.number within)))
     (unread c.args.periods (slice_index live k) (call_in calls (slice_index live k))) in
     search rules
 
@@ -105,14 +105,14 @@ round g c =
       passed = settle.passed;
     } in
     record {
-      planned_seats = c.in_ok-round.round.seats;
-      filled_seats = c.fill.new.self.seats;
-      worked_seats = c.work-worked.result.seats;
-      drained_seats = settled.seats;
+      planned_portions = c.in_ok-round.round.portions;
+      filled_portions = c.fill.new.self.portions;
+      worked_portions = c.work-worked.result.portions;
+      drained_portions = settled.portions;
       between = g.T.Trunk.lines c.fill.new.trunk;
       live = c.requires.live;
       number = plan.number;
-      seats = plan.seats;
+      portions = plan.portions;
       fills = fill.fills;
       filled_others = fill.others;
       filled_number = fill.number;
@@ -120,7 +120,7 @@ round g c =
       worked_number = work.number;
       worked_rising = work.rising;
       places = work.places;
-      told = c.ends.ensures ∙ work.ends ∙ ap (λ (t : ℕ). filter_map (seat_end t) c.work-worked.result.seats)
+      told = c.ends.ensures ∙ work.ends ∙ ap (λ (t : ℕ). filter_map (portion_end t) c.work-worked.result.portions)
           (ap (λ (p : RoundMemory). p.start) fill.kept ∙ plan.start);
       drains = settled.settles;
       held = is_held c.args.stage.outgoing;
@@ -129,7 +129,7 @@ round g c =
       drained_others = settled.others;
       drained_number = settled.number;
       known = plan.known;
-      gains = subst (λ before. GainsFailed before c.settle-farm.result.failed settled.seats)
+      gains = subst (λ before. GainsFailed before c.settle-farm.result.failed settled.portions)
           (made_failed _ _ _ _ _ made) settled.gains;
       is_open = made_open _ _ _ _ _ made;
       partners = made_partners _ _ _ _ _ made;
@@ -154,7 +154,7 @@ in_run g c r first last l at = record { so_far = at.follows.so_far; some = c.req
 -- the round is that of a run that goes on from behind it
 meets : (g : Over) (c : goal.After-settle-farm g) (r : Run) (last : Standing) → HasFlags r last →
     StandingGoesOn (standing c.tell_ends.new.board c.settle-farm.result.failed (g.T.Trunk.lines c.settle-farm.new.trunk)) last →
-    MeetsRun r c.args.periods (round g c).filled_seats
+    MeetsRun r c.args.periods (round g c).filled_portions
     (standing c.tell_ends.new.board c.settle-farm.result.failed
     (g.T.Trunk.lines c.settle-farm.new.trunk)) last
 meets g c r last flags on =
@@ -218,7 +218,7 @@ returns-clause-reaches g c =
       openings = λ z l openings. subst (OpenedBefore z) (sym done) openings;
       fell = fell_round _ _ _ _ _ _ _ w;
       failed = λ first later failed. tells_round _ _ _ _ _ _ _ w first later failed;
-      sides = sides_more _ _ _ (sides_filled _ _ c.in_ok-round.round.seats c.fill.new.self.seats _ c.fill.ensures.fills c.fill.ensures.others)
+      sides = sides_more _ _ _ (sides_filled _ _ c.in_ok-round.round.portions c.fill.new.self.portions _ c.fill.ensures.fills c.fill.ensures.others)
           c.settle-farm.ensures.sides;
       goes = goes_after _ _ b _ _ _ _ _ w a knows b' told.told told.open;
       back = λ held. record {

@@ -1,4 +1,4 @@
-use Rattle.trau_files.proofs.HonestLaws.{empty_files, gave_files, took_files}
+use Rattle.trau_files.proofs.Honest.Known.{empty_files, gave_files, took_files}
 use Rattle.trau_files.proofs.laws.files_hold.Goals as goal
 
 pub returns : goal.returns

@@ -6,7 +6,7 @@ use Rattle.farm_rounds.specs.Memory.{FarmMemory, tally_in}
 use Rattle.farm_rounds.specs.Acts.{ActFits, Stays, Applied}
 use Rattle.farm_rounds.specs.Failed.{NoneListed}
 use Rattle.farm_rounds.specs.Histories.{whose, tallies_after}
-use Rattle.farm_rounds.proofs.Standing.{stands_after, tallied, same_tallies}
+use Rattle.farm_rounds.proofs.Orders.Histories.{stands_after, tallied, same_tallies}
 use Rattle.farm_rounds.proofs.farm.Farm.apply.Goals as goal
 
 pub open-requires-clause-fresh : goal.open-requires-clause-fresh

@@ -7,7 +7,7 @@ use Rattle.farm_rounds.specs.Memory.{FarmMemory}
 use Rattle.farm_rounds.specs.Acts.{ActFits, Applied}
 use Rattle.farm_rounds.specs.Opens.{opens_in, calls_of, AreOpen, AreMutual}
 use Rattle.farm_rounds.specs.Failed.{AreFailed}
-use Rattle.farm_rounds.proofs.Failing.{known_after, stays_fresh}
+use Rattle.farm_rounds.proofs.Failed.Acts.{known_after, stays_fresh}
 use Rattle.farm_rounds.proofs.farm.Farm.change.Goals as goal
 
 sound_read : (most : ℕ) (live ns : List ℕ) (bs cs : List (Box OpenCall)) → ns ≡ live → cs ≡ bs →

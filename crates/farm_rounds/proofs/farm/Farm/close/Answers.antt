@@ -9,8 +9,8 @@ use Rattle.farm_rounds.specs.Calls.{partner_in, call_in}
 use Rattle.farm_rounds.specs.Memory.{FarmMemory, no_tally, tally_in}
 use Rattle.farm_rounds.specs.Acts.{IsOpen, Applied}
 use Rattle.farm_rounds.specs.Opens.{opens_in, calls_of, kept_of, IsOpenCall, AreMutual}
-use Rattle.farm_rounds.proofs.Placed.{open_number}
-use Rattle.farm_rounds.proofs.Failing.{known_after}
+use Rattle.farm_rounds.proofs.Places.Placed.{open_number}
+use Rattle.farm_rounds.proofs.Failed.Acts.{known_after}
 use Rattle.farm_rounds.proofs.farm.Farm.close.Goals as goal
 
 pub close-tally-requires-clause-sound : goal.close-tally-requires-clause-sound

@@ -1,7 +1,7 @@
 use Rattle.std.proofs.Common.{ap}
 use Rattle.farm_rounds.specs.declared.tally.Tally.{Tally}
 use Rattle.farm_rounds.specs.Histories.{whose}
-use Rattle.farm_rounds.proofs.Standing.{standing}
+use Rattle.farm_rounds.proofs.Orders.Histories.{standing}
 use Rattle.farm_rounds.proofs.farm.Farm.counts.Goals as goal
 
 pub returns-clause-live : goal.returns-clause-live

@@ -4,7 +4,7 @@ use Rattle.farm_rounds.specs.Memory.{FarmMemory}
 use Rattle.farm_rounds.specs.Numbers.{IsRising, is_among}
 use Rattle.farm_rounds.specs.Calls.{call_in}
 use Rattle.farm_rounds.specs.Opens.{opens_in}
-use Rattle.farm_rounds.proofs.Changing.{among_open}
+use Rattle.farm_rounds.proofs.Orders.Acts.{among_open}
 use Rattle.farm_rounds.proofs.farm.Farm.live_calls.Goals as goal
 
 pub returns-clause-calls : goal.returns-clause-calls

@@ -1,6 +1,6 @@
 use Rattle.std.proofs.Common.{arith}
-use Rattle.farm_rounds.proofs.Farms.{farm_new, none_open, none_stand}
-use Rattle.farm_rounds.proofs.Failing.{none_failed}
+use Rattle.farm_rounds.proofs.Places.Empty.{farm_new, none_open, none_stand}
+use Rattle.farm_rounds.proofs.Failed.Acts.{none_failed}
 use Rattle.farm_rounds.proofs.farm.Farm.new.Goals as goal
 
 pub invariant_of-result : goal.invariant_of-result

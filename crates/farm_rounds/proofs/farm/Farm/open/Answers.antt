@@ -7,9 +7,9 @@ use Rattle.farm_rounds.specs.declared.open.OpenCall.{OpenCall}
 use Rattle.farm_rounds.specs.Memory.{FarmMemory}
 use Rattle.farm_rounds.specs.Acts.{ActFits, Applied}
 use Rattle.farm_rounds.specs.Opens.{calls_of, AreMutual}
-use Rattle.farm_rounds.proofs.Farms.{make_farm}
+use Rattle.farm_rounds.proofs.Places.Empty.{make_farm}
 use Rattle.farm_rounds.specs.Failed.{is_listed, AreFailed}
-use Rattle.farm_rounds.proofs.Failing.{known_after}
+use Rattle.farm_rounds.proofs.Failed.Acts.{known_after}
 use Rattle.farm_rounds.proofs.farm.Farm.open.Goals as goal
 
 pub open-requires-clause-sound : goal.open-requires-clause-sound

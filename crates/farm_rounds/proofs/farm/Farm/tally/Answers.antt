@@ -11,10 +11,10 @@ use Rattle.farm_rounds.specs.Numbers.{is_among}
 use Rattle.farm_rounds.specs.Calls.{call_in}
 use Rattle.farm_rounds.specs.Opens.{opens_in, calls_of, kept_of}
 use Rattle.farm_rounds.specs.Opened.{open_at}
-use Rattle.farm_rounds.proofs.Boxes.{at_read, opens_long}
-use Rattle.farm_rounds.proofs.Changing.{among_open}
-use Rattle.farm_rounds.proofs.Placed.{listed_long, call_at, leg_found}
-use Rattle.farm_rounds.proofs.Rising.{place_found, place_free, not_there}
+use Rattle.farm_rounds.proofs.Places.Boxes.{at_read, opens_long}
+use Rattle.farm_rounds.proofs.Orders.Acts.{among_open}
+use Rattle.farm_rounds.proofs.Places.Placed.{listed_long, call_at, leg_found}
+use Rattle.farm_rounds.proofs.Places.Rising.{place_found, place_free, not_there}
 use Rattle.farm_rounds.proofs.farm.Farm.tally.Goals as goal
 
 pub returns-in-Ok-clause-live : goal.returns-in-Ok-clause-live

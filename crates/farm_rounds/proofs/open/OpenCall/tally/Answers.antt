@@ -5,7 +5,7 @@ use Rattle.call_leg.specs.Settings.{epoch_now}
 use Rattle.call_leg.specs.Counted.{call_counts, sightings_counted}
 use Rattle.call_leg.specs.Places.{sent_now}
 use Rattle.call_leg.specs.Down.{frames_of}
-use Rattle.call_leg.proofs.Bounds.{frames-at_most, carried-at_most, exact_u32, exact_u64}
+use Rattle.call_leg.proofs.Downlink.Bounds.{frames-at_most, carried-at_most, exact_u32, exact_u64}
 use Rattle.call_leg.proofs.Heard.{length-ups_of}
 use Rattle.farm_rounds.specs.declared.tally.Tally.{Tally}
 use Rattle.farm_rounds.proofs.open.OpenCall.tally.Goals as goal

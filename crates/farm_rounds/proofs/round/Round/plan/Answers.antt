@@ -3,20 +3,20 @@ use Rattle.std.specs.Prelude.{map, slice_index}
 use Rattle.std.proofs.lemmas.List.{length-map}
 use Rattle.std.proofs.lemmas.Result.{IfOk-from_err}
 use Rattle.trau_io.specs.declared.line.Line.{Line}
-use Rattle.round_lines.specs.Rounds.{seat_at}
+use Rattle.round_lines.specs.Rounds.{portion_at}
 use Rattle.farm_rounds.specs.declared.open.OpenCall.{OpenCall}
 use Rattle.farm_rounds.specs.Calls.{Kept, call_in}
 use Rattle.farm_rounds.specs.Memory.{FarmMemory}
-use Rattle.farm_rounds.specs.Opens.{opens_in, calls_of, open_planned, kept_of, seat_of_open}
-use Rattle.farm_rounds.specs.RoundHistories.{seat_for}
+use Rattle.farm_rounds.specs.Opens.{opens_in, calls_of, open_planned, kept_of, portion_of_open}
+use Rattle.farm_rounds.specs.RoundHistories.{portion_for}
 use Rattle.farm_rounds.specs.Working.{IsRound}
 use Rattle.farm_rounds.specs.Failed.{AreFailed, AreFailedBefore}
-use Rattle.farm_rounds.proofs.Boxes.{opens_long}
-use Rattle.farm_rounds.proofs.Written.{back}
-use Rattle.farm_rounds.proofs.Placed.{listed_long}
+use Rattle.farm_rounds.proofs.Places.Boxes.{opens_long}
+use Rattle.farm_rounds.proofs.Places.Written.{back}
+use Rattle.farm_rounds.proofs.Places.Placed.{listed_long}
 use Rattle.farm_rounds.specs.Numbers.{IsRising}
-use Rattle.farm_rounds.proofs.Planning.{few_live, kept_all, planned, planned_seat, rising_kept}
-use Rattle.farm_rounds.proofs.Known.{known_planned}
+use Rattle.farm_rounds.proofs.Plan.{few_live, kept_all, planned, planned_portion, rising_kept}
+use Rattle.farm_rounds.proofs.Failed.Known.{known_planned}
 use Rattle.farm_rounds.proofs.round.Round.plan.Goals as goal
 
 pub take_memory-requires-clause-calls : goal.take_memory-requires-clause-calls
@@ -73,18 +73,18 @@ pub returns-clause-number : goal.returns-clause-number
 returns-clause-number c =
     let i = c.farm.inside.calls in
     let was = opens_in i.open.items in
-    ap (λ (os : List OpenCall). length (map seat_of_open os)) (opens c) ∙ length-map (map (open_planned c.args.periods) was) seat_of_open
+    ap (λ (os : List OpenCall). length (map portion_of_open os)) (opens c) ∙ length-map (map (open_planned c.args.periods) was) portion_of_open
     ∙ length-map was (open_planned c.args.periods) ∙ sym (listed_long i.live.items was c.farm.invariant.0.listed)
     ∙ ap (λ (f : FarmMemory). length f.live) c.farm.view_is
 
-pub returns-clause-seats : goal.returns-clause-seats
-returns-clause-seats c =
+pub returns-clause-portions : goal.returns-clause-portions
+returns-clause-portions c =
     let i = c.farm.inside.calls in
     subst (λ (f : FarmMemory). (k : ℕ) → k < length f.live →
-    seat_at (map seat_of_open (opens_in (take i.open.len (c.plan_all.new.calls ++ drop (length c.plan_all.new.calls) i.open.items)))) k
-    ≡ seat_for c.args.periods (slice_index f.live k) (call_in f.calls (slice_index f.live k))) c.farm.view_is
-    (λ k l. ap (λ (os : List OpenCall). seat_at (map seat_of_open os) k) (opens c)
-    ∙ planned_seat i.ended c.args.periods i.live.items (opens_in i.open.items) k c.farm.invariant.0 l)
+    portion_at (map portion_of_open (opens_in (take i.open.len (c.plan_all.new.calls ++ drop (length c.plan_all.new.calls) i.open.items)))) k
+    ≡ portion_for c.args.periods (slice_index f.live k) (call_in f.calls (slice_index f.live k))) c.farm.view_is
+    (λ k l. ap (λ (os : List OpenCall). portion_at (map portion_of_open os) k) (opens c)
+    ∙ planned_portion i.ended c.args.periods i.live.items (opens_in i.open.items) k c.farm.invariant.0 l)
 
 pub returns-clause-order : goal.returns-clause-order
 returns-clause-order c =
@@ -102,7 +102,7 @@ returns-in_err-plan_all c =
       start = IfOk-from_err _ _ no;
       farm = IfOk-from_err _ _ no;
       number = IfOk-from_err _ _ no;
-      seats = IfOk-from_err _ _ no;
+      portions = IfOk-from_err _ _ no;
       order = IfOk-from_err _ _ no;
       known = IfOk-from_err _ _ no;
     }
@@ -114,7 +114,7 @@ returns-in_err-ends c =
       start = IfOk-from_err _ _ no;
       farm = IfOk-from_err _ _ no;
       number = IfOk-from_err _ _ no;
-      seats = IfOk-from_err _ _ no;
+      portions = IfOk-from_err _ _ no;
       order = IfOk-from_err _ _ no;
       known = IfOk-from_err _ _ no;
     }

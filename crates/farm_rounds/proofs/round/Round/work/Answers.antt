@@ -4,17 +4,17 @@ use Rattle.std.specs.List.{All}
 use Rattle.std.specs.Global.{Box}
 use Rattle.round_lines.specs.Rounds.{EndsWithin}
 use Rattle.farm_rounds.specs.declared.open.OpenCall.{OpenCall}
-use Rattle.farm_rounds.specs.Opens.{opens_in, calls_of, seats_of, seat_of_open}
+use Rattle.farm_rounds.specs.Opens.{opens_in, calls_of, portions_of, portion_of_open}
 use Rattle.farm_rounds.specs.Opened.{standing_of_open, standings, ArePaired, IsReady, OctetsFit, IsTold}
 use Rattle.farm_rounds.specs.Working.{RoundMemory, IsWorkedRound}
 use Rattle.farm_rounds.specs.Failed.{AreFailedBefore}
-use Rattle.farm_rounds.proofs.Planning.{live_long}
-use Rattle.farm_rounds.proofs.Boxes.{opens_long}
-use Rattle.farm_rounds.proofs.Rounded.{all_told, all_done, paired, ready, told_standings, told_ready}
-use Rattle.farm_rounds.proofs.Works.{ends_within, worked_round}
-use Rattle.farm_rounds.proofs.Outcome.{first_run, second_run, told_long, done_long, number_after, places_after, calls_after, rising_after, partners_after}
-use Rattle.farm_rounds.proofs.Outcome.{legs_after, buffers_after, stands_after, octets_after}
-use Rattle.farm_rounds.proofs.Known.{known_done}
+use Rattle.farm_rounds.proofs.Plan.{live_long}
+use Rattle.farm_rounds.proofs.Places.Boxes.{opens_long}
+use Rattle.farm_rounds.proofs.Work.Halves.{all_told, all_done, paired, ready, told_standings, told_ready}
+use Rattle.farm_rounds.proofs.Work.Histories.{ends_within, worked_round}
+use Rattle.farm_rounds.proofs.Work.Outcome.{first_run, second_run, told_long, done_long, number_after, places_after, calls_after, rising_after, partners_after}
+use Rattle.farm_rounds.proofs.Work.Outcome.{legs_after, buffers_after, stands_after, octets_after}
+use Rattle.farm_rounds.proofs.Failed.Known.{known_done}
 use Rattle.farm_rounds.proofs.round.Round.work.Given as given
 use Rattle.farm_rounds.proofs.round.Round.work.Goals as goal
 
@@ -86,8 +86,8 @@ list_ends-requires-clause-within g c =
     let done : opens_in c.run_pool-open.result.items ≡ all_done (opens_in i.open.items) =
     second_run c.run_pool-halfway.result.len (opens_in i.open.items) c.run_pool-halfway.result.items c.deref_mut-2.result.now c.meet_all.new.calls
     c.run_pool-open.result.items (omega (arith, c.run_pool-halfway.result.ok.0)) c.deref_mut-2.ensures.value told c.meet_all.ensures c.run_pool-open.ensures in
-    subst (λ (bs : List (Box OpenCall)). EndsWithin c.self.inside.start (seats_of bs)) (sym c.deref-3.ensures.value)
-    (subst (λ (os : List OpenCall). EndsWithin c.self.inside.start (map seat_of_open os)) (sym done)
+    subst (λ (bs : List (Box OpenCall)). EndsWithin c.self.inside.start (portions_of bs)) (sym c.deref-3.ensures.value)
+    (subst (λ (os : List OpenCall). EndsWithin c.self.inside.start (map portion_of_open os)) (sym done)
     (ends_within c.self.inside.start i.ended i.live.items (opens_in i.open.items) c.self.invariant.0))
 
 pub list_ends-requires-clause-room : goal.list_ends-requires-clause-room
@@ -142,52 +142,52 @@ pub returns-clause-number : goal.returns-clause-number
 returns-clause-number g c =
     let i = c.self.inside.calls in
     number_after c.self.inside.start i.ended i.live.items i.open.items c.run_pool-open.result.items c.self.invariant.0 (done g c) c.args.self
-    (sym (ap (λ (r : RoundMemory). r.farm.calls) c.self.view_is)) (sym (ap (λ (r : RoundMemory). r.seats) c.self.view_is))
+    (sym (ap (λ (r : RoundMemory). r.farm.calls) c.self.view_is)) (sym (ap (λ (r : RoundMemory). r.portions) c.self.view_is))
 
 pub returns-clause-places : goal.returns-clause-places
 returns-clause-places g c =
     let i = c.self.inside.calls in
     places_after c.self.inside.start i.ended i.live.items i.open.items c.run_pool-open.result.items c.self.invariant.0 (done g c) c.args.self
-    (sym (ap (λ (r : RoundMemory). r.farm.calls) c.self.view_is)) (sym (ap (λ (r : RoundMemory). r.seats) c.self.view_is))
+    (sym (ap (λ (r : RoundMemory). r.farm.calls) c.self.view_is)) (sym (ap (λ (r : RoundMemory). r.portions) c.self.view_is))
 
 pub returns-clause-calls : goal.returns-clause-calls
 returns-clause-calls g c =
     let i = c.self.inside.calls in
     calls_after c.self.inside.start i.ended i.live.items i.open.items c.run_pool-open.result.items c.self.invariant.0 (done g c) c.args.self
-    (sym (ap (λ (r : RoundMemory). r.farm.calls) c.self.view_is)) (sym (ap (λ (r : RoundMemory). r.seats) c.self.view_is))
+    (sym (ap (λ (r : RoundMemory). r.farm.calls) c.self.view_is)) (sym (ap (λ (r : RoundMemory). r.portions) c.self.view_is))
 
 pub returns-clause-rising : goal.returns-clause-rising
 returns-clause-rising g c =
     let i = c.self.inside.calls in
     rising_after c.self.inside.start i.ended i.live.items i.open.items c.run_pool-open.result.items c.self.invariant.0 (done g c) c.args.self
-    (sym (ap (λ (r : RoundMemory). r.farm.calls) c.self.view_is)) (sym (ap (λ (r : RoundMemory). r.seats) c.self.view_is))
+    (sym (ap (λ (r : RoundMemory). r.farm.calls) c.self.view_is)) (sym (ap (λ (r : RoundMemory). r.portions) c.self.view_is))
 
 pub returns-clause-partners : goal.returns-clause-partners
 returns-clause-partners g c =
     let i = c.self.inside.calls in
     partners_after c.self.inside.start i.ended i.live.items i.open.items c.run_pool-open.result.items c.self.invariant.0 (done g c) c.args.self
-    (sym (ap (λ (r : RoundMemory). r.farm.calls) c.self.view_is)) (sym (ap (λ (r : RoundMemory). r.seats) c.self.view_is))
+    (sym (ap (λ (r : RoundMemory). r.farm.calls) c.self.view_is)) (sym (ap (λ (r : RoundMemory). r.portions) c.self.view_is))
 
 pub returns-clause-legs : goal.returns-clause-legs
 returns-clause-legs g c =
     let i = c.self.inside.calls in
     legs_after c.self.inside.start i.ended i.live.items i.open.items c.run_pool-open.result.items c.self.invariant.0 (done g c) c.args.self
-    (sym (ap (λ (r : RoundMemory). r.farm.calls) c.self.view_is)) (sym (ap (λ (r : RoundMemory). r.seats) c.self.view_is))
+    (sym (ap (λ (r : RoundMemory). r.farm.calls) c.self.view_is)) (sym (ap (λ (r : RoundMemory). r.portions) c.self.view_is))
 
 pub returns-clause-buffers : goal.returns-clause-buffers
 returns-clause-buffers g c =
     let i = c.self.inside.calls in
     buffers_after c.self.inside.start i.ended i.live.items i.open.items c.run_pool-open.result.items c.self.invariant.0 (done g c) c.args.self
-    (sym (ap (λ (r : RoundMemory). r.farm.calls) c.self.view_is)) (sym (ap (λ (r : RoundMemory). r.seats) c.self.view_is))
+    (sym (ap (λ (r : RoundMemory). r.farm.calls) c.self.view_is)) (sym (ap (λ (r : RoundMemory). r.portions) c.self.view_is))
 
 pub returns-clause-stands : goal.returns-clause-stands
 returns-clause-stands g c =
     let i = c.self.inside.calls in
     stands_after c.self.inside.start i.ended i.live.items i.open.items c.run_pool-open.result.items c.self.invariant.0 (done g c) c.args.self
-    (sym (ap (λ (r : RoundMemory). r.farm.calls) c.self.view_is)) (sym (ap (λ (r : RoundMemory). r.seats) c.self.view_is)) (sound g c)
+    (sym (ap (λ (r : RoundMemory). r.farm.calls) c.self.view_is)) (sym (ap (λ (r : RoundMemory). r.portions) c.self.view_is)) (sound g c)
 
 pub returns-clause-octets : goal.returns-clause-octets
 returns-clause-octets g c =
     let i = c.self.inside.calls in
     octets_after c.self.inside.start i.ended i.live.items i.open.items c.run_pool-open.result.items c.self.invariant.0 (done g c) c.args.self
-    (sym (ap (λ (r : RoundMemory). r.farm.calls) c.self.view_is)) (sym (ap (λ (r : RoundMemory). r.seats) c.self.view_is)) (sound g c)
+    (sym (ap (λ (r : RoundMemory). r.farm.calls) c.self.view_is)) (sym (ap (λ (r : RoundMemory). r.portions) c.self.view_is)) (sound g c)

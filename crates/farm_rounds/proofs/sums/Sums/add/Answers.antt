@@ -1,6 +1,6 @@
 use Rattle.std.proofs.Common.{refl, ◌∙◌, ◌+◌, ◌%◌, ◌^◌, arith}
 use Rattle.std.proofs.lemmas.List.{length-set}
-use Rattle.farm_rounds.proofs.Summing.{added_here, added_elsewhere}
+use Rattle.farm_rounds.proofs.Drain.Sums.{added_here, added_elsewhere}
 use Rattle.farm_rounds.proofs.sums.Sums.add.Goals as goal
 
 pub index-requires : goal.index-requires

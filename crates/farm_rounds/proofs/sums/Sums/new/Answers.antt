@@ -1,4 +1,4 @@
-use Rattle.farm_rounds.proofs.Summing.{no_sum}
+use Rattle.farm_rounds.proofs.Drain.Sums.{no_sum}
 use Rattle.farm_rounds.proofs.sums.Sums.new.Goals as goal
 
 pub returns : goal.returns

@@ -3,29 +3,29 @@ use Rattle.std.specs.Prelude.{if◌then◌else◌, ◌&&◌}
 use Rattle.std.specs.List.{All}
 use Rattle.std.specs.Global.{Box}
 use Rattle.std.proofs.lemmas.List.{length-map}
-use Rattle.round_lines.specs.Seats.{SeatMemory, Drains}
+use Rattle.round_lines.specs.Portions.{PortionMemory, Drains}
 use Rattle.round_lines.specs.Rounds.{Each, KeepsButEach, IsOutgoing, Rising}
 use Rattle.farm_rounds.specs.declared.open.OpenCall.{OpenCall}
 use Rattle.farm_rounds.specs.Calls.{partner_in}
 use Rattle.farm_rounds.specs.Numbers.{is_among}
 use Rattle.farm_rounds.specs.Memory.{tally_in}
-use Rattle.farm_rounds.specs.Opens.{opens_in, calls_of, seats_of, same_call}
+use Rattle.farm_rounds.specs.Opens.{opens_in, calls_of, portions_of, same_call}
 use Rattle.farm_rounds.specs.Opened.{HasBuffers, same_calls}
 use Rattle.farm_rounds.specs.Histories.{CallHistory, CallsStand, kept_of}
 use Rattle.farm_rounds.specs.Working.{WorkedMemory, IsWorkedRound, GainsFailed, goes_on_call, partner_past}
 use Rattle.farm_rounds.specs.RoundHistories.{WorkedStand, KnowFailed, IsPassed, those_that}
 use Rattle.farm_rounds.specs.Failed.{AreFailedBefore}
-use Rattle.farm_rounds.proofs.Boxes.{opens_long, seats_long}
-use Rattle.farm_rounds.proofs.Farms.{make_farm}
-use Rattle.farm_rounds.proofs.Marked.{still_worked, still_stand, same_going, same_partners, buffered, seats_rise}
-use Rattle.farm_rounds.proofs.Written.{back}
-use Rattle.farm_rounds.proofs.Known.{known_drained}
+use Rattle.farm_rounds.proofs.Places.Boxes.{opens_long, portions_long}
+use Rattle.farm_rounds.proofs.Places.Empty.{make_farm}
+use Rattle.farm_rounds.proofs.Work.Marks.{still_worked, still_stand, same_going, same_partners, buffered, portions_rise}
+use Rattle.farm_rounds.proofs.Places.Written.{back}
+use Rattle.farm_rounds.proofs.Failed.Known.{known_drained}
 use Rattle.farm_rounds.proofs.worked.Worked.drain.Given as given
 use Rattle.farm_rounds.proofs.worked.Worked.drain.Goals as goal
 
 -- the round with these calls
 abbrev drained_round : WorkedMemory → List (Box OpenCall) → WorkedMemory
-drained_round r now = record r { farm = record r.farm { calls = calls_of now }; seats = seats_of now }
+drained_round r now = record r { farm = record r.farm { calls = calls_of now }; portions = portions_of now }
 
 -- the calls are the same but for the marks of their outgoing lines
 kept : (was here now : List (Box OpenCall)) → here ≡ was → same_calls now ≡ same_calls here → same_calls now ≡ same_calls was
@@ -49,7 +49,7 @@ after : (g : given.Over) (c : goal.After-pass g) →
     let calls = take i.open.len (c.drain_all.new.calls ++ drop (length c.drain_all.new.calls) i.open.items) in
     record {
       farm = make_farm calls i.live.items i.tallies.items i.failed.items i.ended;
-      seats = seats_of calls;
+      portions = portions_of calls;
       ends = c.self.inside.ends.items;
     } ≡ drained_round c.args.self c.drain_all.new.calls
 after g c =
@@ -57,7 +57,7 @@ after g c =
     ap (λ (bs : List (Box OpenCall)).
     record {
       farm = make_farm bs i.live.items i.tallies.items i.failed.items i.ended;
-      seats = seats_of bs;
+      portions = portions_of bs;
       ends = c.self.inside.ends.items;
     })
     (written i.open.len i.open.items c.deref_mut.result.now c.drain_all.new.calls c.deref_mut.ensures.value c.deref_mut.ensures.len
@@ -65,10 +65,10 @@ after g c =
     ∙ ap (λ (r : WorkedMemory). drained_round r c.drain_all.new.calls) c.self.view_is
 
 -- the same calls go on, with the same partners
-goes : (g : given.Over) (c : goal.After-pass g) → goes_on_call (seats_of c.drain_all.new.calls) ≡ goes_on_call c.args.self.seats
+goes : (g : given.Over) (c : goal.After-pass g) → goes_on_call (portions_of c.drain_all.new.calls) ≡ goes_on_call c.args.self.portions
 goes g c =
     same_going (opens_in c.self.inside.calls.open.items) (opens_in c.drain_all.new.calls) (same g c)
-    ∙ ap (λ (r : WorkedMemory). goes_on_call r.seats) c.self.view_is
+    ∙ ap (λ (r : WorkedMemory). goes_on_call r.portions) c.self.view_is
 
 partners : (g : given.Over) (c : goal.After-pass g) → partner_in (calls_of c.drain_all.new.calls) ≡ partner_in c.args.self.farm.calls
 partners g c =
@@ -84,7 +84,7 @@ stands g c h stand =
 
 pub drain_all-requires-clause-rising : goal.drain_all-requires-clause-rising
 drain_all-requires-clause-rising g c =
-    subst (λ (bs : List (Box OpenCall)). Rising (seats_of bs)) (sym c.deref_mut.ensures.value) (seats_rise _ _ _ c.self.invariant.0)
+    subst (λ (bs : List (Box OpenCall)). Rising (portions_of bs)) (sym c.deref_mut.ensures.value) (portions_rise _ _ _ c.self.invariant.0)
 
 pub drain_all-requires-clause-fits : goal.drain_all-requires-clause-fits
 drain_all-requires-clause-fits g c =
@@ -107,18 +107,18 @@ invariant_of-self g c =
           (sym (written i.open.len i.open.items here now c.deref_mut.ensures.value c.deref_mut.ensures.len c.drain_all.ensures.kept))
           (known_drained i.failed.items before behind now i.open.items
           (many i.open.items now (kept i.open.items here now c.deref_mut.ensures.value c.drain_all.ensures.kept))
-          (subst (λ (bs : List (Box OpenCall)). Each Drains before behind (seats_of bs) (seats_of now) (length bs)) c.deref_mut.ensures.value
+          (subst (λ (bs : List (Box OpenCall)). Each Drains before behind (portions_of bs) (portions_of now) (length bs)) c.deref_mut.ensures.value
           c.drain_all.ensures.drains) c.self.invariant.3),
     )
 
--- what is said of the calls' places is said of the seats
-seated : (g : given.Over) (c : goal.After-pass g) (P : List SeatMemory → ℕ → Type 0) →
-    P (seats_of c.deref_mut.result.now) (length c.deref_mut.result.now) → P c.args.self.seats (length c.args.self.seats)
-seated g c P said =
+-- what is said of the calls' places is said of the portions
+portioned : (g : given.Over) (c : goal.After-pass g) (P : List PortionMemory → ℕ → Type 0) →
+    P (portions_of c.deref_mut.result.now) (length c.deref_mut.result.now) → P c.args.self.portions (length c.args.self.portions)
+portioned g c P said =
     let was = c.self.inside.calls.open.items in
-    subst (λ (r : WorkedMemory). P r.seats (length r.seats)) c.self.view_is
-    (subst (λ (n : ℕ). P (seats_of was) n) (sym (seats_long was))
-    (subst (λ (bs : List (Box OpenCall)). P (seats_of bs) (length bs)) c.deref_mut.ensures.value said))
+    subst (λ (r : WorkedMemory). P r.portions (length r.portions)) c.self.view_is
+    (subst (λ (n : ℕ). P (portions_of was) n) (sym (portions_long was))
+    (subst (λ (bs : List (Box OpenCall)). P (portions_of bs) (length bs)) c.deref_mut.ensures.value said))
 
 pub returns-clause-drains : goal.returns-clause-drains
 returns-clause-drains g c =
@@ -126,18 +126,18 @@ returns-clause-drains g c =
     let before = g.T.Trunk.lines c.args.trunk.now in
     let behind = g.T.Trunk.lines c.drain_all.new.trunk in
     let gains =
-    subst (λ (r : WorkedMemory). GainsFailed r.farm.failed c.pass.result.failed r.seats × KnowFailed r.seats c.pass.result.calls) (after g c)
+    subst (λ (r : WorkedMemory). GainsFailed r.farm.failed c.pass.result.failed r.portions × KnowFailed r.portions c.pass.result.calls) (after g c)
     c.pass.ensures.gains in (
-      seats_of now,
-      seated g c (λ ss n. Each Drains before behind ss (seats_of now) n) c.drain_all.ensures.drains,
+      portions_of now,
+      portioned g c (λ ss n. Each Drains before behind ss (portions_of now) n) c.drain_all.ensures.drains,
       gains.0,
       gains.1,
-      seats_long now ∙ many c.self.inside.calls.open.items now (same g c) ∙ sym (seats_long c.self.inside.calls.open.items) ∙ ap (λ (r : WorkedMemory). length r.seats) c.self.view_is,
+      portions_long now ∙ many c.self.inside.calls.open.items now (same g c) ∙ sym (portions_long c.self.inside.calls.open.items) ∙ ap (λ (r : WorkedMemory). length r.portions) c.self.view_is,
     )
 
 pub returns-clause-others : goal.returns-clause-others
 returns-clause-others g c =
-    seated g c (λ ss n. KeepsButEach IsOutgoing (g.T.Trunk.lines c.args.trunk.now) (g.T.Trunk.lines c.drain_all.new.trunk) ss n) c.drain_all.ensures.others
+    portioned g c (λ ss n. KeepsButEach IsOutgoing (g.T.Trunk.lines c.args.trunk.now) (g.T.Trunk.lines c.drain_all.new.trunk) ss n) c.drain_all.ensures.others
 
 pub returns-clause-passed : goal.returns-clause-passed
 returns-clause-passed g c =
@@ -148,7 +148,7 @@ returns-clause-passed g c =
       ended = p.ended;
       live = subst (λ (stays : ℕ → Bool). (d : ℕ) → is_among f.live d ≡ (is_among was.live d && stays d)) (goes g c) p.live;
       is_open = p.is_open;
-      partners = subst (λ (q : ℕ → Option ℕ). (d : ℕ) → partner_in f.calls d ≡ partner_past (goes_on_call c.args.self.seats) q d) (partners g c)
+      partners = subst (λ (q : ℕ → Option ℕ). (d : ℕ) → partner_in f.calls d ≡ partner_past (goes_on_call c.args.self.portions) q d) (partners g c)
           (subst (λ (stays : ℕ → Bool). (d : ℕ) → partner_in f.calls d ≡ partner_past stays (partner_in (calls_of c.drain_all.new.calls)) d) (goes g c)
           p.partners);
       history = λ h stand. subst (λ (stays : ℕ → Bool). CallsStand (those_that stays h) f.calls) (goes g c) (p.history h (stands g c h stand));

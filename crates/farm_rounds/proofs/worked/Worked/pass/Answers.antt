@@ -8,19 +8,19 @@ use Rattle.std.proofs.lemmas.List.Sorted.{IsNonDecreasingBy-from_sort_by_key}
 use Rattle.trau_io.specs.declared.line.Line.{Line}
 use Rattle.trau_io.specs.Indices.{index_of_line}
 use Rattle.round_lines.specs.Memory.{line_name, failed_in_round}
-use Rattle.round_lines.specs.Seats.{SeatMemory}
+use Rattle.round_lines.specs.Portions.{PortionMemory}
 use Rattle.farm_rounds.specs.declared.open.OpenCall.{OpenCall}
 use Rattle.farm_rounds.specs.declared.tally.Tally.{Tally}
 use Rattle.farm_rounds.specs.Numbers.{IsRising}
 use Rattle.farm_rounds.specs.Memory.{FarmMemory, tally_in}
-use Rattle.farm_rounds.specs.Opens.{opens_in, seats_of, calls_of}
+use Rattle.farm_rounds.specs.Opens.{opens_in, portions_of, calls_of}
 use Rattle.farm_rounds.specs.Opened.{TallyKept}
 use Rattle.farm_rounds.specs.Working.{WorkedMemory, GainsFailed}
-use Rattle.farm_rounds.proofs.Boxes.{opens_long}
+use Rattle.farm_rounds.proofs.Places.Boxes.{opens_long}
 use Rattle.farm_rounds.specs.RoundHistories.{KnowFailed, IsPassed}
-use Rattle.farm_rounds.proofs.Passing.{own, passed, knowing, still_left}
-use Rattle.farm_rounds.proofs.Written.{back}
-use Rattle.farm_rounds.proofs.Gaining.{gained_once, failed_passed}
+use Rattle.farm_rounds.proofs.Drain.Farm.{own, passed, knowing, still_left}
+use Rattle.farm_rounds.proofs.Places.Written.{back}
+use Rattle.farm_rounds.proofs.Failed.Gained.{gained_once, failed_passed}
 use Rattle.farm_rounds.proofs.worked.Worked.pass.Goals as goal
 
 -- each call is listed
@@ -90,12 +90,12 @@ sorted c =
     IsNonDecreasingBy-from_sort_by_key (λ (l : Line). index_of_line l.call l.side) _ c.sort_unstable_by_key.ensures.sorted (λ a r q k. search rules)
 
 gains : (c : goal.After-drop-self-inside) →
-    GainsFailed c.self.inside.calls.failed.items c.sort_unstable_by_key.new.self.items (seats_of c.self.inside.calls.open.items)
+    GainsFailed c.self.inside.calls.failed.items c.sort_unstable_by_key.new.self.items (portions_of c.self.inside.calls.open.items)
 gains c =
     let i = c.self.inside.calls in
     let named =
     c.list_failed.ensures
-    ∙ ap (λ (bs : List (Box OpenCall)). map line_name i.failed.items ++ flat_map (λ (s : SeatMemory). failed_in_round s.lines) (seats_of bs))
+    ∙ ap (λ (bs : List (Box OpenCall)). map line_name i.failed.items ++ flat_map (λ (s : PortionMemory). failed_in_round s.lines) (portions_of bs))
     c.deref.ensures.value in
     record {
       lines = c.list_failed.new.failed.items;
@@ -119,7 +119,7 @@ pub returns-clause-gains : goal.returns-clause-gains
 returns-clause-gains c =
     let i = c.self.inside.calls in
     subst (λ (r : WorkedMemory).
-    GainsFailed r.farm.failed c.sort_unstable_by_key.new.self.items r.seats × KnowFailed r.seats (calls_of c.keep_open.new.calls.items)) c.self.view_is (
+    GainsFailed r.farm.failed c.sort_unstable_by_key.new.self.items r.portions × KnowFailed r.portions (calls_of c.keep_open.new.calls.items)) c.self.view_is (
       gains c,
       knowing i.ended i.live.items (opens_in i.open.items) c.keep_open.new.live.items (opens_in c.keep_open.new.calls.items) c.self.invariant.0
           c.keep_open.ensures.live c.keep_open.ensures.calls,

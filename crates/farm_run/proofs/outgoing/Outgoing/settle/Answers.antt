@@ -10,7 +10,7 @@ returns-in-Written-clause-settled g c =
     (sym (ap is_held c.in-Written.is)) (drained _ _ c.args.worked c.drain.result c.drain.ensures.drains c.drain.ensures.others)
 
 pub returns-in-Written-clause-sides : goal.returns-in-Written-clause-sides
-returns-in-Written-clause-sides g c = sides_drained _ _ c.args.worked.seats c.drain.ensures.drains.0 _ c.drain.ensures.drains.1 c.drain.ensures.others
+returns-in-Written-clause-sides g c = sides_drained _ _ c.args.worked.portions c.drain.ensures.drains.0 _ c.drain.ensures.drains.1 c.drain.ensures.others
 
 pub returns-in-Summed-clause-settled : goal.returns-in-Summed-clause-settled
 returns-in-Summed-clause-settled g c =
@@ -19,4 +19,4 @@ returns-in-Summed-clause-settled g c =
     c.drain-in-Summed.result) (sym (ap is_held c.in-Summed.is)) (drained _ _ c.args.worked d.result d.ensures.drains d.ensures.others)
 
 pub returns-in-Summed-clause-sides : goal.returns-in-Summed-clause-sides
-returns-in-Summed-clause-sides g c = let d = c.drain-in-Summed.ensures in sides_drained _ _ c.args.worked.seats d.drains.0 _ d.drains.1 d.others
+returns-in-Summed-clause-sides g c = let d = c.drain-in-Summed.ensures in sides_drained _ _ c.args.worked.portions d.drains.0 _ d.drains.1 d.others

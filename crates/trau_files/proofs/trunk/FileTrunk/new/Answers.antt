@@ -1,7 +1,7 @@
 use Rattle.std.proofs.Common.{◌≡◌, ◌+◌, ◌∙◌, ap, arith}
 use Rattle.std.proofs.lemmas.List.Elements.{All-push}
 use Rattle.trau_files.specs.Files.{FileLine}
-use Rattle.trau_files.proofs.HonestFirst.{first_holds}
+use Rattle.trau_files.proofs.Honest.First.{first_holds}
 use Rattle.trau_files.proofs.trunk.FileTrunk.new.Goals as goal
 
 pub push_reserved-requires : goal.push_reserved-requires

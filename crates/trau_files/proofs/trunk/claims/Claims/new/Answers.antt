@@ -1,5 +1,5 @@
 use Rattle.trau_files.proofs.Apart.{apart_of_none}
-use Rattle.trau_files.proofs.Seating.{all_none, cloned_none}
+use Rattle.trau_files.proofs.BayLaws.{all_none, cloned_none}
 use Rattle.trau_files.proofs.trunk.claims.Claims.new.Goals as goal
 
 pub invariant_of-result : goal.invariant_of-result

@@ -1,5 +1,0 @@
-use Rattle.std.proofs.Common.{rules}
-use Rattle.trau_files.proofs.trunk.seats.stands.Goals as goal
-
-pub returns-in-Some-2-clause-stands : goal.returns-in-Some-2-clause-stands
-returns-in-Some-2-clause-stands g c = search rules
