@@ -11,6 +11,7 @@ CRATES = TOP / "crates"
 CITED = re.compile(r"\bRattle\.(\w+)\.proofs\.([\w.]*\w)")
 NAMED = re.compile(r"\busing\(crate::proofs::([\w:]+)::\w+\)")
 DECLARED = re.compile(r"^(pub )?mod (\w+)$", re.M)
+MADE = re.compile(r"The[A-Z]")  # begins the names of modules that the toolchain makes of a type, which no file declares
 
 
 def citations():
@@ -21,8 +22,9 @@ def citations():
             at = (above, *names) if folder == "proofs" else (above,)
             text = file.read_text(encoding="utf-8")
             for crate, path in CITED.findall(text):
-                if (CRATES / crate).is_dir():
-                    yield at, (crate, *path.split("."))
+                cited = (crate, *path.split("."))
+                if (CRATES / crate).is_dir() and not any(map(MADE.match, cited)):
+                    yield at, cited
             yield from ((at, (above, *path.split("::"))) for path in NAMED.findall(text))
 
 

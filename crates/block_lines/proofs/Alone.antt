@@ -1,4 +1,5 @@
--- For crates above: what is known of a line after octets were appended to it or consumed, and at its end (`appended`, `consumed`, `at_end`).
+-- For crates above: what is known of a line after octets were appended to it or consumed, and at its end (`appended`,
+-- `consumed`, `at_end`).
 -- Octets are cut into blocks in one way only; and what lines that tell their octets gave and gained.
 use Rattle.std.proofs.Common.{◌≡◌, inl, inr, ℕ, ◌+◌, List, [], ◌∷◌, ◌++◌, length, take, All, Option, Some, None, refl, sym, ◌∙◌, ap, subst, arith}
 use Rattle.std.proofs.Common.{append_assoc, append-nil, length-append}

@@ -1,4 +1,5 @@
--- For crates above: the octets of whole blocks (`octets_in`), with one block more (`concat_push`), and with a part of the next (`few_with`).
+-- For crates above: the octets of whole blocks (`octets_in`), with one block more (`concat_push`), and with a part of
+-- the next (`few_with`).
 use Rattle.std.proofs.Common.{◌≡◌, ℕ, ◌+◌, ◌*◌, ◌≤◌, List, [], ◌∷◌, ◌++◌, length, All, sym, ◌∙◌, ap, arith, length-append, append-nil}
 use Rattle.std.specs.List.{concat}
 use Rattle.std.proofs.Math.Nat.{mul-suc, mul-zero}

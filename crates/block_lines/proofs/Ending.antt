@@ -1,5 +1,5 @@
--- For crates above: a command that a line's fault ended has status 6 (`fault_status`); one that refuses no block never has 8 (`never_refused`). A calm count didn't
--- rise (`not_calm`).
+-- For crates above: a command that a line's fault ended has status 6 (`fault_status`); one that refuses no block never
+-- has 8 (`never_refused`). A calm count didn't rise (`not_calm`).
 -- Why a command ends as it does, and what it leaves where nothing failed.
 use Rattle.std.proofs.Common.{◌≡◌, ◌≢◌, ◌⊎◌, inl, inr, ⊎_elim, ℕ, ◌<◌, List, [], ◌++◌, length, Some, Ok, Err, refl, sym, ◌∙◌, ap, subst, arith, nat_lt, ◌==◌}
 use Rattle.std.proofs.KnownBytes.{Appends-trans}

@@ -1,4 +1,5 @@
--- For crates above: the next block is whole or a part, so it counts as a block (`next_whole`, `blocks_whole`) or not (`next_less`, `blocks_less`).
+-- For crates above: the next block is whole or a part, so it counts as a block (`next_whole`, `blocks_whole`) or not
+-- (`next_less`, `blocks_less`).
 -- What outputs gain, one piece behind another.
 use Rattle.std.proofs.Common.{◌≡◌, ◌⊎◌, inl, inr, ℕ, ◌<◌, ◌≤◌, List, [], ◌∷◌, ◌++◌, length, take, sym, ◌∙◌, subst}
 use Rattle.std.proofs.Common.{append-nil, nat_lt}

@@ -1,5 +1,5 @@
--- A whole command by a block machine: its run, its last text and its end, the cause of its status, and its result if nothing fails
--- (this project's profile).
+-- A whole command by a block machine: its run, its last text and its end, the cause of its status, and its result if
+-- nothing fails (this project's profile).
 use Rattle.std.specs.Prelude.{◌≡◌, ◌⊎◌, ℕ, ◌+◌, ◌*◌, ◌-◌, ◌^◌, ◌<◌, ◌≤◌, List, [], ◌++◌, length, All, Some, Ok, Err}
 use Rattle.std.specs.List.{concat}
 use Rattle.std.specs.Io.KnownBytes.{Consumes, IsAtEnd}
@@ -47,7 +47,8 @@ IsEndOf shape call ReadFailed result = IsFaultOf call shape.from result
 IsEndOf shape call (WriteFailed k) result = IsFaultOf (call + k) shape.to result
 IsEndOf shape call DeskFailed result = result ≡ tool.DeskFault
 
--- A whole command, whatever fails: its run, and then the last text, which the desk gained whole, or, if it failed, a proper prefix of it.
+-- A whole command, whatever fails: its run, and then the last text, which the desk gained whole, or, if it failed, a
+-- proper prefix of it.
 pub record CommandRuns (M : Machine) (before now : ℕ → Side → LineState) (desk desk' : DeskState) (call : ℕ) (result : ToolEnd) : Type 0 where
   pub end : RunEnd
   pub middle : DeskState
@@ -76,9 +77,9 @@ pub record ReadsRefused (M : Machine) (inc inc' : LineState) : Type 0 where
 abbrev pub IsCalm : ℕ → ℕ → Type 0
 IsCalm before now = (now ≡ before) × (now < 2 ^ 64 - 1)
 
--- With status 4 a fault of writing to the desk was counted, with 6 a fault of a line of the command; with 8 a block that was read is
--- refused. If the desk's count grew, the status is 4. If a line's count grew, it is 6 or 4. If the incoming line's octets are known,
--- it didn't fail, and a block that was read is refused, the status is 8 or 4.
+-- With status 4 a fault of writing to the desk was counted, with 6 a fault of a line of the command; with 8 a block
+-- that was read is refused. If the desk's count grew, the status is 4. If a line's count grew, it is 6 or 4. If the
+-- incoming line's octets are known, it didn't fail, and a block that was read is refused, the status is 8 or 4.
 pub record HasCauses (M : Machine) (a b : Around) (status : ℕ) : Type 0 where
   pub known : (status ≡ 0) ⊎ (status ≡ 4) ⊎ (status ≡ 6) ⊎ (status ≡ 8)
   pub desk_failed : status ≡ 4 → Rose a.desk.write_faults b.desk.write_faults
@@ -100,14 +101,15 @@ pub record AreCalm (M : Machine) (a b : Around) : Type 0 where
   pub outs : (j : ℕ) → j < M.shape.lines → IsCalm (a.outs j).faults (b.outs j).faults
   pub desk : IsCalm a.desk.write_faults b.desk.write_faults
 
--- the octets of a line: blocks that are taken, what was read after them, and the rest, which wasn't read; 4,294,967,295 blocks were
--- read at most
+-- the octets of a line: blocks that are taken, what was read after them, and the rest, which wasn't read; 4,294,967,295
+-- blocks were read at most
 pub record IsCut (M : Machine) (octets : List ℕ) (blocks : List (List ℕ)) (last rest : List ℕ) : Type 0 where
   pub split : octets ≡ concat blocks ++ last ++ rest
   pub taken : All (IsBlock M) blocks
   pub few : length (concat blocks ++ last) ≤ M.shape.octets * (2 ^ 32 - 1)
 
--- the result if the incoming line had `octets` to come, line j held `held j` and the desk `text`, and no block is refused
+-- the result if the incoming line had `octets` to come, line j held `held j` and the desk `text`, and no block is
+-- refused
 pub record LeavesDone (M : Machine) (b : Around) (octets : List ℕ) (held : ℕ → List ℕ) (text : List ℕ) (status : ℕ) : Type 0 where
   pub blocks : List (List ℕ)
   pub last : List ℕ

@@ -2,9 +2,9 @@
 use Rattle.std.specs.Prelude.{◌≡◌, ◌≢◌, ◌⊎◌, ℕ, ◌<◌, ◌≤◌, List, [], ◌∷◌, ◌++◌, length, nat_lt, if◌then◌else◌}
 use Rattle.block_lines.specs.declared.machine.Shape.{Shape}
 
--- Which whole blocks are taken, and which octets may be left after the last of them. What outgoing line j gains, and what is printed
--- before the last text, for the blocks and the octets left. The last text at the line's end, which depends on the octets left by their
--- number, and the last text after this number of blocks at one that is refused.
+-- Which whole blocks are taken, and which octets may be left after the last of them. What outgoing line j gains, and
+-- what is printed before the last text, for the blocks and the octets left. The last text at the line's end, which
+-- depends on the octets left by their number, and the last text after this number of blocks at one that is refused.
 pub record Machine : Type 1 where
   pub shape : Shape
   pub takes : List ℕ → Type 0
@@ -47,8 +47,8 @@ blocks_with M blocks next = if nat_lt (length next) M.shape.octets then blocks e
 abbrev pub with_next : Machine → (List (List ℕ) → List ℕ → List ℕ) → List (List ℕ) → List ℕ → List ℕ
 with_next M f blocks next = if nat_lt (length next) M.shape.octets then f blocks next else f (blocks ++ next ∷ []) []
 
--- a block has 1 to 160 octets; there are at most 4 outgoing lines, none of them the incoming one; nothing goes out before the
--- first block; and a line may end after its last block
+-- a block has 1 to 160 octets; there are at most 4 outgoing lines, none of them the incoming one; nothing goes out
+-- before the first block; and a line may end after its last block
 pub record IsLawful (M : Machine) : Type 0 where
   pub some : 0 < M.shape.octets
   pub most : M.shape.octets ≤ 160

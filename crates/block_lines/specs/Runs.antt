@@ -41,12 +41,13 @@ out_of line = record { written = line.written; faults = line.faults }
 abbrev pub out_of_desk : DeskState → Output
 out_of_desk desk = record { written = desk.written; faults = desk.write_faults }
 
--- how much of what goes out for the next block an output gained: all of it, a proper prefix, in which it failed, or nothing
+-- how much of what goes out for the next block an output gained: all of it, a proper prefix, in which it failed, or
+-- nothing
 pub data Stage : Type 0 where
   All_of_it Part_of_it None_of_it : Stage
 
--- An output gained what goes out for the blocks (`before`), and of what goes out for the next, with which it is `all`, as much as its
--- stage says.
+-- An output gained what goes out for the blocks (`before`), and of what goes out for the next, with which it is `all`,
+-- as much as its stage says.
 abbrev pub Reaches : Stage → Output → Output → List ℕ → List ℕ → Type 0
 Reaches All_of_it o o' before all = Appends o.written o'.written all × (o'.faults ≡ o.faults)
 Reaches Part_of_it o o' before all = (more : List ℕ) × (all ≡ before ++ more) × (n : ℕ) × (n < length more)
@@ -68,7 +69,8 @@ desk_stage ReadFailed = None_of_it
 desk_stage (WriteFailed k) = None_of_it
 desk_stage DeskFailed = Part_of_it
 
--- why the run ends after these blocks and what was read after them (`last`); a read fails only before 4,294,967,295 blocks are taken
+-- why the run ends after these blocks and what was read after them (`last`); a read fails only before 4,294,967,295
+-- blocks are taken
 abbrev pub EndsAt : Machine → Around → Around → List (List ℕ) → List ℕ → RunEnd → Type 0
 EndsAt M a b blocks last (Done n left) = (n ≡ length blocks) × (left ≡ length last) × IsRest M last × (b.inc.faults ≡ a.inc.faults)
     × (IsAtEnd b.inc.to_come ⊎ ((n ≡ 2 ^ 32 - 1) × (last ≡ [])))
@@ -78,8 +80,8 @@ EndsAt M a b blocks last (WriteFailed k) =
     (k < M.shape.lines) × IsNext M last × (b.inc.faults ≡ a.inc.faults) × (length last < M.shape.octets → IsAtEnd b.inc.to_come)
 EndsAt M a b blocks last DeskFailed = IsNext M last × (b.inc.faults ≡ a.inc.faults) × (length last < M.shape.octets → IsAtEnd b.inc.to_come)
 
--- A whole run. At most 4,294,967,295 blocks were read: those that were taken, and then maybe one more or a part of one. All that goes
--- out for the taken blocks was written, and of what goes out for the next as much as the end says.
+-- A whole run. At most 4,294,967,295 blocks were read: those that were taken, and then maybe one more or a part of one.
+-- All that goes out for the taken blocks was written, and of what goes out for the next as much as the end says.
 pub record Runs (M : Machine) (a b : Around) (end : RunEnd) : Type 0 where
   pub blocks : List (List ℕ)
   pub last : List ℕ

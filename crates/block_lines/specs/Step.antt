@@ -16,8 +16,9 @@ pub record HasRoom (stands : List (List ℕ) → Type 0) : Type 0 where
   pub now : stands blocks
   pub fewer : length blocks < 2 ^ 32 - 1
 
--- what a machine makes of one more block, or of the octets left: this text, and for line j the first `count` of the octets that it then
--- holds for it; `before` says of a list that these are the blocks that it has taken so far, and `after` that it has taken them then
+-- what a machine makes of one more block, or of the octets left: this text, and for line j the first `count` of the
+-- octets that it then holds for it; `before` says of a list that these are the blocks that it has taken so far, and
+-- `after` that it has taken them then
 pub record Makes (M : Machine) (before after : List (List ℕ) → Type 0) (next : List ℕ) (holds : ℕ → List ℕ) (text : List ℕ)
     (count : ℕ) : Type 0 where
   pub bound : (j : ℕ) → j < M.shape.lines → count ≤ length (holds j)

@@ -28,8 +28,8 @@ pub fn failed_line(call: u32, side: Side) -> ArrayString<64>
     text
 }
 
-/// The last line of text of a line that was read to its end: these words, at most 14 octets, then how many were taken and how many
-/// octets are left, as `split octets 1600 left 3` for the words `split octets `. It doesn't allocate.
+/// The last line of text of a line that was read to its end: these words, at most 14 octets, then how many were taken
+/// and how many octets are left, as `split octets 1600 left 3` for the words `split octets `. It doesn't allocate.
 pub fn left_line(words: &str, count: u64, left: u32) -> ArrayString<64>
     requires { length words.now ≤ 14 }
     ensures { result.bytes ≡ words.now ++ (decimal count ++ (codes " left " ++ (decimal left ++ codes "\n"))) }
@@ -83,8 +83,9 @@ fn tool_end(shape: Shape, call: u32, end: RunEnd) -> ToolEnd
     }
 }
 
-/// Runs a command over the lines of a call: takes the blocks of its incoming line, writes and prints what the machine makes of
-/// each, and at the end prints the machine's last text, or which line failed. It doesn't allocate, and never ends with `Memory`.
+/// Runs a command over the lines of a call: takes the blocks of its incoming line, writes and prints what the machine
+/// makes of each, and at the end prints the machine's last text, or which line failed. It doesn't allocate, and never
+/// ends with `Memory`.
 pub fn run_command<M: BlockMachine, T: Trunk, D: Desk>(
     machine: &mut M,
     call: u32,

@@ -38,8 +38,9 @@ pub trait BlockMachine {
         ensures value { result ≡ about.shape }
         ensures law { IsLawful about };
 
-    /// Takes the next block, or the octets left at the line's end, and makes what goes out for that: the text, and for each line the
-    /// first of the octets that it then holds for it, as many as the number returned. None if the block is refused.
+    /// Takes the next block, or the octets left at the line's end, and makes what goes out for that: the text, and for
+    /// each line the first of the octets that it then holds for it, as many as the number returned. None if the block
+    /// is refused.
     fn make(&mut self, block: &[u8]) -> Option<usize>
         requires bound { length block.now ≤ about.shape.octets }
         requires room { HasRoom (stands self.old) }

@@ -39,8 +39,8 @@ fn write_lines<M: BlockMachine, T: Trunk>(
     Ok(())
 }
 
-// Writes and prints what the machine makes of the next block, or of the octets left at the line's end. It is compiled once for each of
-// the two, so that a whole block isn't tested for its length.
+// Writes and prints what the machine makes of the next block, or of the octets left at the line's end. It is compiled
+// once for each of the two, so that a whole block isn't tested for its length.
 #[inline(always)]
 fn put<M: BlockMachine, T: Trunk, D: Desk>(
     machine: &mut M,
@@ -113,8 +113,8 @@ fn is_taken(end: RunEnd, octets: usize) -> bool
     }
 }
 
-/// Runs a machine over the blocks of a call's line, up to the first refused block or the end of the line, but over at most
-/// 4,294,967,295 blocks.
+/// Runs a machine over the blocks of a call's line, up to the first refused block or the end of the line, but over at
+/// most 4,294,967,295 blocks.
 pub fn run_machine<M: BlockMachine, T: Trunk, D: Desk>(
     machine: &mut M,
     call: u32,

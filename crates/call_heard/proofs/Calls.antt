@@ -20,7 +20,7 @@ use Rattle.call_spec.specs.Whole.{AreSpans, IsWhole, first_periods, periods_of_c
 use Rattle.call_spec.proofs.Stretched.{reverse-more, stretched-more}
 use Rattle.call_spec.proofs.Reading.{LooksBack, length-settings_of}
 use Rattle.call_spec.proofs.Frames.{made-read}
-use Rattle.call_spec.proofs.Loads.{ArePlaced, placed}
+use Rattle.call_spec.proofs.Bridges.Loads.{ArePlaced, placed}
 use Rattle.call_spec.proofs.Sending.{zip-more, frame_after, adds-frame}
 use Rattle.call_spec.proofs.DownLine.{frame-placed, down-whole}
 use Rattle.call_spec.proofs.Whole.{history-whole, call-whole}

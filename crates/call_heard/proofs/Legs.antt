@@ -14,7 +14,7 @@ use Rattle.ccu_end.proofs.Lines.{made-found}
 use Rattle.call_leg.specs.Who.{Who}
 use Rattle.call_leg.specs.Periods.{CallPeriod, quiet_now, handed_in}
 use Rattle.call_leg.specs.Down.{CallFrame, down_line, down_period, down_periods, frames_of, coded_stretch, coded_after, coded_frames, speech, frame_now}
-use Rattle.call_leg.proofs.Enter.{length-down_periods}
+use Rattle.call_leg.proofs.Downlink.Enter.{length-down_periods}
 use Rattle.call_leg.proofs.Lines.{line-is_made}
 use Rattle.call_heard.specs.Items.{PeriodsHandFrames}
 use Rattle.call_heard.proofs.Shapes.{length-bits260, shape-encoding, shape-sent}

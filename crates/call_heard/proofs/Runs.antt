@@ -1,4 +1,5 @@
--- What the calls of a run hand over to one another are 260 bits, and the octets of their Down lines have the lines' bits.
+-- What the calls of a run hand over to one another are 260 bits, and the octets of their Down lines have the lines'
+-- bits.
 use Rattle.std.proofs.Common.{◌≡◌, ℕ, All, List, [], ◌∷◌, length, filter, get_or}
 use Rattle.std.proofs.lemmas.List.Elements.{All-map}
 use Rattle.trau_bits.specs.Bits.{bits_of, octets_of, AreBits}

@@ -7,7 +7,8 @@ use Rattle.ccu_end.specs.Found.{FoundFrame}
 use Rattle.call_spec.specs.Call.{Call}
 use Rattle.call_spec.specs.Down.{frames_of_call, down_frames}
 
--- a made frame with what is sent in it, and its place: after 320 ones and two bits for each octet of the Pcm line before its start
+-- a made frame with what is sent in it, and its place: after 320 ones and two bits for each octet of the Pcm line
+-- before its start
 abbrev pub found_as : NumberedFrame × DownFrame → FoundFrame
 found_as x = record { place = 320 + 2 * x.0.start; frame = Some x.1 }
 

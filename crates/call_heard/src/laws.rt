@@ -20,10 +20,6 @@ ghost use Rattle.run_calls_spec.specs.Whole.{whole_call};
 ghost use Rattle.call_heard.specs.Heard.{SpansHandFrames, found_of};
 ghost use Rattle.call_heard.specs.Items.{PeriodsHandFrames};
 
-use ccu_end::laws::one_list;
-use run_calls_spec::calls_are_whole;
-use rx_handler::laws::{steps_give_effectives, the_newest_is_the_last};
-
 /// What a call hands over in a period has 260 bits, whatever its uplink: those of its effective frame, or of silence.
 pub fn handed_frames_have_260_bits()
     ensures { (number : ℕ) (ts : List CallPeriod) → length (bits260 (handed_fields (effective_now number ts))) ≡ 260 }
@@ -55,9 +51,9 @@ pub fn frames_of_a_call_are_found()
     // one before. So each adopted shift moves the next place by exactly that shift.
     ensures places { (call : Call) → IsWhole call → map (λ f. f.place) (found_of call) ≡ places_from 320 (map (λ f. f.shift) (frames_of_call call)) }
 {
-    the_newest_is_the_last();
-    steps_give_effectives();
-    one_list();
+    rx_handler::laws::the_newest_is_the_last();
+    rx_handler::laws::steps_give_effectives();
+    ccu_end::laws::one_list();
 }
 
 /// The same for each call of a run: what calls hand over to one another are frames.
@@ -75,8 +71,8 @@ pub fn frames_of_a_run_are_found()
     ensures places { (r : Run) (c : ℕ) → AreOrders r.orders → is_some (opened_at c (done_in r)) ≡ true →
         map (λ f. f.place) (found_of (whole_call r c)) ≡ places_from 320 (map (λ f. f.shift) (frames_of_call (whole_call r c))) }
 {
-    calls_are_whole();
-    frames_of_a_call_are_found();
-    the_newest_is_the_last();
-    steps_give_effectives();
+    run_calls_spec::laws::calls_are_whole();
+    crate::laws::frames_of_a_call_are_found();
+    rx_handler::laws::the_newest_is_the_last();
+    rx_handler::laws::steps_give_effectives();
 }

@@ -1,4 +1,5 @@
--- For crates above: after its turn or its bridge's end, each half still stands for its history; the turn gives the call's note and lines.
+-- For crates above: after its turn or its bridge's end, each half still stands for its history; the turn gives the
+-- call's note and lines.
 -- The halves of a leg, apart, on any memory that stands.
 use Rattle.std.proofs.Common.{◌≡◌, refl, sym, ap, ◌∙◌, subst, ℕ, Bool, true, false, not, Option, Some, None, is_some, unwrap_or, List, [], ◌∷◌, ◌++◌, length}
 use Rattle.std.proofs.lemmas.List.{append-nil}
@@ -26,9 +27,9 @@ use Rattle.call_leg.specs.Memory.{DownMemory}
 use Rattle.call_leg.specs.Places.{DownStands, Halfway, Between}
 use Rattle.call_leg.specs.Step.{played, after_handing, bridge_over, down_worked}
 use Rattle.call_leg.specs.Halves.{UpMemory, Note, note_of, note_in, up_turned, noted, with_handed, down_turned, up_unbridged, handed_bits, UpStands}
-use Rattle.call_leg.proofs.Bridges.{halfway-short, ends}
+use Rattle.call_leg.proofs.Downlink.Bridges.{halfway-short, ends}
 use Rattle.call_leg.proofs.UpLaws.{played-stands, plain-more, found_in, hears}
-use Rattle.call_leg.proofs.DownLaws.{one_more, half-stands, thawed-kept, thawed-frozen}
+use Rattle.call_leg.proofs.Downlink.Laws.{one_more, half-stands, thawed-kept, thawed-frozen}
 
 -- ---- the uplink half
 

@@ -1,4 +1,5 @@
--- For crates above: a half's turn leaves it bridged or not (`up-keeps`, `down-keeps`), and joined halves have their uplink back (`up_of-joined`).
+-- For crates above: a half's turn leaves it bridged or not (`up-keeps`, `down-keeps`), and joined halves have their
+-- uplink back (`up_of-joined`).
 -- The turns of the halves of a leg, by what the functions make of memories.
 use Rattle.std.proofs.Common.{◌≡◌, refl, sym, ap, ◌∙◌, ℕ, Bool, not, nat_le, Option, Some, None, is_some, unwrap_or, Bor, List, length}
 use Rattle.std.specs.Prelude.{option_copied}

@@ -14,7 +14,7 @@ use Rattle.call_leg.specs.Places.{Halfway, Between}
 use Rattle.call_leg.specs.Stands.{Stands, Midway}
 use Rattle.call_leg.specs.Step.{with_down, after_handing, down_worked}
 use Rattle.call_leg.specs.Halves.{UpMemory, up_of, joined, Note, up_turned, noted, up_worked, UpStands}
-use Rattle.call_leg.proofs.DownLaws.{half-stands}
+use Rattle.call_leg.proofs.Downlink.Laws.{half-stands}
 use Rattle.call_leg.proofs.HalfLaws.{turn-stands, turn-note, turn-plays, noted-stands, handed-stands}
 
 -- halves that stand at one period are a leg that stands there

@@ -1,4 +1,5 @@
--- For crates above: a period has 320 bits of Down and 160 octets of Out, and so have lines of several periods; Down is made of bits if all handed frames are (`HandBits`).
+-- For crates above: a period has 320 bits of Down and 160 octets of Out, and so have lines of several periods; Down is
+-- made of bits if all handed frames are (`HandBits`).
 use Rattle.std.proofs.Common.{◌≡◌, subst, ◌∙◌, ℕ, FitsSigned, w16, ◌*◌, ◌<◌, ℤ, pos, negsuc, true, if◌then◌else◌, nat_le, Option, Some, None, IfSome, unwrap_or}
 use Rattle.std.proofs.Common.{refl, get_or, All, List, [], ◌∷◌, length, drop, replicate, arith, length-take, length-drop}
 use Rattle.std.specs.Prelude.{◌==◌}

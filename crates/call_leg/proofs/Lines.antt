@@ -8,7 +8,7 @@ use Rattle.trau_frame.proofs.Again.{length-down_bits}
 use Rattle.call_leg.specs.Who.{Who}
 use Rattle.call_leg.specs.Periods.{CallPeriod}
 use Rattle.call_leg.specs.Down.{CallFrame, down_period, down_periods, frames_of, frame_now, bits_now, down_made, down_now, down_line}
-use Rattle.call_leg.proofs.Enter.{length-down_periods}
+use Rattle.call_leg.proofs.Downlink.Enter.{length-down_periods}
 
 abbrev nothing : List ℕ
 nothing = []

@@ -19,7 +19,7 @@ use Rattle.call_leg.specs.Down.{CallFrame, down_period, down_periods, is_coded, 
 use Rattle.call_leg.specs.Down.{frame_now, bits_now, down_now}
 use Rattle.call_leg.specs.Noted.{NotedPeriod, NotedFrame, noted_periods}
 use Rattle.call_leg.specs.Noted as by_notes
-use Rattle.call_leg.proofs.Reloaded.{reseen, reloaded, down_of-reloaded}
+use Rattle.call_leg.proofs.Downlink.Reloaded.{reseen, reloaded, down_of-reloaded}
 
 -- ---- what a frame knows of its period
 

@@ -1,4 +1,5 @@
--- For crates above: a downlink half that runs by the uplink's notes gives the octets of the call's Down line (`run-downs`).
+-- For crates above: a downlink half that runs by the uplink's notes gives the octets of the call's Down line
+-- (`run-downs`).
 -- The runs of the halves of a leg: what the notes of the one make of the other.
 use Rattle.std.proofs.Common.{◌≡◌, refl, ap, ◌∙◌, ◌&&◌, ℕ, zero, suc, ◌≤◌, nat_lt, Bool, true, false, if◌then◌else◌, Some, None, is_some}
 use Rattle.std.proofs.Common.{List, ◌∷◌, ◌++◌, length, get_or, arith}

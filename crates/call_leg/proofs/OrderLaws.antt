@@ -1,4 +1,5 @@
--- For crates above: a new leg stands for its call (`new-stands`), and a leg still does after each order between periods.
+-- For crates above: a new leg stands for its call (`new-stands`), and a leg still does after each order between
+-- periods.
 use Rattle.std.proofs.Common.{◌≡◌, refl, sym, ap, ◌∙◌, subst, ℕ, ℤ, true, None, List, [], length}
 use Rattle.std.proofs.lemmas.Bool.{true≢false}
 use Rattle.std.proofs.lemmas.List.Elements.{All-nil}
@@ -25,9 +26,9 @@ use Rattle.call_leg.specs.Stands.{Stands}
 use Rattle.call_leg.specs.Step.{with_down, set_level, set_mode, bridge_begun, begin_bridge, bridge_over}
 use Rattle.call_leg.specs.Halves.{up_of, up_unbridged}
 use Rattle.call_leg.proofs.Heard.{length-ups_of}
-use Rattle.call_leg.proofs.Numbered.{next-ahead, all-come, length-made}
-use Rattle.call_leg.proofs.Bridges.{plain-new, begins}
-use Rattle.call_leg.proofs.DownLaws.{home_tx-stands}
+use Rattle.call_leg.proofs.Downlink.Numbered.{next-ahead, all-come, length-made}
+use Rattle.call_leg.proofs.Downlink.Bridges.{plain-new, begins}
+use Rattle.call_leg.proofs.Downlink.Laws.{home_tx-stands}
 use Rattle.call_leg.proofs.HalfLaws.{up_off-stands, down_off-stands}
 use Rattle.call_leg.proofs.LegLaws.{join-stands}
 

@@ -26,7 +26,7 @@ use Rattle.call_leg.specs.Periods.{CallPeriod, ups_of, sighting_after, heard_of,
 use Rattle.call_leg.specs.Settings.{Settings, epoch_now, period_with}
 use Rattle.call_leg.specs.Out.{plain_with, plain_stretch, decoded_octets}
 use Rattle.call_leg.specs.Step.{played_frame, played_none, played}
-use Rattle.call_leg.proofs.Period.{begun-more}
+use Rattle.call_leg.proofs.Downlink.Period.{begun-more}
 
 -- ---- what is played out
 

@@ -1,5 +1,5 @@
--- The Down line of a call: handed frames, idle frames and coded frames (GSM 06.10 and GSM 08.60; when each of them is sent is this
--- project's profile). Lists have the newest period and the newest frame first.
+-- The Down line of a call: handed frames, idle frames and coded frames (GSM 06.10 and GSM 08.60; when each of them is
+-- sent is this project's profile). Lists have the newest period and the newest frame first.
 use Rattle.std.specs.Prelude.{ℕ, ℤ, Bool, true, not, if◌then◌else◌, ◌&&◌, ◌==◌, Some, None, is_none, is_some, List, [], ◌∷◌, ◌++◌, map, take, drop}
 use Rattle.trau_alaw.specs.declared.Law.{Law}
 use Rattle.trau_alaw.specs.Period.{expanded}
@@ -35,7 +35,8 @@ frames_of ts = made_frames (down_periods ts)
 abbrev pub is_coded : ℕ → CallFrame → Bool
 is_coded call f = is_none f.carries && not (quiet_now call f.load)
 
--- the coded frames after the last frame that isn't one, and since the start of the latest bridge; `epoch` bridges have started
+-- the coded frames after the last frame that isn't one, and since the start of the latest bridge; `epoch` bridges have
+-- started
 abbrev pub coded_stretch : ℕ → ℕ → List CallFrame → List CallFrame
 coded_stretch call epoch [] = []
 coded_stretch call epoch (f ∷ fs) = if is_coded call f && f.epoch == epoch then f ∷ coded_stretch call epoch fs else []
@@ -57,8 +58,8 @@ coded_frames law (f ∷ before) = coded_after law f before ∷ coded_frames law 
 abbrev pub speech : Sent → DownFrame
 speech s = down.Speech (bits260 s.fields) s.sp
 
--- The newest frame: its handed bits with SP 1, if it carries some; else idle, if its period is quiet; else what is sent for it after the
--- coded frames of its stretch.
+-- The newest frame: its handed bits with SP 1, if it carries some; else idle, if its period is quiet; else what is sent
+-- for it after the coded frames of its stretch.
 abbrev pub frame_now : Who → List CallFrame → DownFrame
 frame_now who [] = down.Idle
 frame_now who (f ∷ fs) = elim f.carries [

@@ -1,4 +1,5 @@
--- The two halves of a leg, and a period of each: the uplink half's note goes to the downlink half. Lists have the newest first.
+-- The two halves of a leg, and a period of each: the uplink half's note goes to the downlink half. Lists have the
+-- newest first.
 use Rattle.std.specs.Prelude.{◌≡◌, ℕ, Bool, true, false, not, Option, Some, None, option_map, unwrap_or, List, ◌∷◌}
 use Rattle.trau_alaw.specs.declared.Law.{Law}
 use Rattle.trau_io.specs.declared.ends.Counts.{Counts}
@@ -47,7 +48,8 @@ joined u d = record { law = u.law; search = u.search; rx = u.rx; decoder = u.dec
 
 -- ---- the note of a period
 
--- the period's effective frame; the field of a speech or idle frame, else 0, which asks for nothing; DTXd of a speech frame
+-- the period's effective frame; the field of a speech or idle frame, else 0, which asks for nothing; DTXd of a speech
+-- frame
 pub record Note : Type 0 where
   pub eff : EffectiveFields
   pub ask : ℕ
@@ -119,8 +121,8 @@ handed_bits item = option_map (λ e. bits260 (handed_fields e)) item
 
 -- ---- the memory after a history
 
--- Between periods: the uplink half of a call after these periods, with the settings `now` for the next one. It depends neither on the
--- octets of the Pcm line nor on the handed bits. For a downlink half this is `Between`.
+-- Between periods: the uplink half of a call after these periods, with the settings `now` for the next one. It depends
+-- neither on the octets of the Pcm line nor on the handed bits. For a downlink half this is `Between`.
 pub record UpStands (who : Who) (ts : List CallPeriod) (now : Settings) (u : UpMemory) : Type 0 where
   pub law : u.law ≡ who.law
   pub search : search.Stands (ups_of ts) u.search

@@ -25,9 +25,9 @@ pub record CoderMemory : Type 0 where
 abbrev pub home_coder : CoderMemory
 home_coder = record { encoder = encoder.home_memory; tx = tx.home_memory }
 
--- the downlink half: the call's law, the framer (bits in store, octets held), the shift that was asked for, the handed frames that wait,
--- the coder, the settings, DTXd of the last speech frame, whether this period is quiet and whether it lies in a bridge, how many handed
--- frames of the latest bridge were sent, and how many frames were made
+-- the downlink half: the call's law, the framer (bits in store, octets held), the shift that was asked for, the handed
+-- frames that wait, the coder, the settings, DTXd of the last speech frame, whether this period is quiet and whether it
+-- lies in a bridge, how many handed frames of the latest bridge were sent, and how many frames were made
 pub record DownMemory : Type 0 where
   pub law : Law
   pub framer : framer.FramerMemory

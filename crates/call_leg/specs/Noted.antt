@@ -1,5 +1,5 @@
--- The Down line of a call by the notes of its uplink half, in place of the octets of its Up line. Each rule is that of the same name in
--- Periods.antt or Down.antt. Lists have the newest period and the newest frame first.
+-- The Down line of a call by the notes of its uplink half, in place of the octets of its Up line. Each rule is that of
+-- the same name in Periods.antt or Down.antt. Lists have the newest period and the newest frame first.
 use Rattle.std.specs.Prelude.{ℕ, ℤ, pos, Bool, true, false, not, if◌then◌else◌, ◌&&◌, ◌==◌, Option, Some, None, is_none, is_some, unwrap_or, List, [], ◌∷◌}
 use Rattle.std.specs.Prelude.{◌++◌, length, map, take, drop}
 use Rattle.trau_alaw.specs.declared.Law.{Law}
@@ -18,8 +18,8 @@ use Rattle.call_leg.specs.Settings.{Settings}
 use Rattle.call_leg.specs.Down.{coded_as, speech}
 use Rattle.call_leg.specs.Halves.{Note, note_in}
 
--- A period for the downlink half: its note, its 160 octets of the Pcm line, the level and the DTX mode in force, whether a bridge starts at
--- it, and if it lies in a bridge, the 260 bits that are handed over in it.
+-- A period for the downlink half: its note, its 160 octets of the Pcm line, the level and the DTX mode in force,
+-- whether a bridge starts at it, and if it lies in a bridge, the 260 bits that are handed over in it.
 pub record NotedPeriod : Type 0 where
   pub note : Note
   pub pcm : List ℕ
@@ -88,7 +88,8 @@ NotedFrame = MadeFrame (List NotedPeriod)
 abbrev pub is_coded : NotedFrame → Bool
 is_coded f = is_none f.carries && not (quiet_now f.load)
 
--- the coded frames after the last frame that isn't one, and since the start of the latest bridge; `epoch` bridges have started
+-- the coded frames after the last frame that isn't one, and since the start of the latest bridge; `epoch` bridges have
+-- started
 abbrev pub coded_stretch : ℕ → List NotedFrame → List NotedFrame
 coded_stretch epoch [] = []
 coded_stretch epoch (f ∷ fs) = if is_coded f && f.epoch == epoch then f ∷ coded_stretch epoch fs else []
@@ -106,8 +107,8 @@ abbrev pub coded_frames : Law → List NotedFrame → List Coded
 coded_frames law [] = []
 coded_frames law (f ∷ before) = coded_after law f before ∷ coded_frames law before
 
--- The newest frame: its handed bits with SP 1, if it carries some; else idle, if its period is quiet; else what is sent for it after the
--- coded frames of its stretch.
+-- The newest frame: its handed bits with SP 1, if it carries some; else idle, if its period is quiet; else what is sent
+-- for it after the coded frames of its stretch.
 abbrev pub frame_now : Law → List NotedFrame → DownFrame
 frame_now law [] = down.Idle
 frame_now law (f ∷ fs) = elim f.carries [

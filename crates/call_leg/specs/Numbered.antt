@@ -1,4 +1,5 @@
--- The made frames of a call by number, given its bridges and the alignment fields of all its periods. Lists have the newest first.
+-- The made frames of a call by number, given its bridges and the alignment fields of all its periods. Lists have the
+-- newest first.
 use Rattle.std.specs.Prelude.{ℕ, List}
 use Rattle.down_framer.specs.ByNumber.{NumberedFrame, bridges_in, asked_fields, numbered_frames, numbered_start}
 use Rattle.call_leg.specs.Periods.{CallPeriod}

@@ -8,8 +8,8 @@ use Rattle.rx_handler.specs.Origin.{EffectiveFields}
 use Rattle.rx_handler.specs.Past.{effective_of}
 use Rattle.call_leg.specs.Uplink.{Sighting, sighting_in, heard_as, dtxd_after, is_quiet}
 
--- A period of a call: its 40 octets of the Up line and its 160 of the Pcm line, the level and the DTX mode in force, whether a bridge
--- starts at it, and if it lies in a bridge, the 260 bits that are handed over in it.
+-- A period of a call: its 40 octets of the Up line and its 160 of the Pcm line, the level and the DTX mode in force,
+-- whether a bridge starts at it, and if it lies in a bridge, the 260 bits that are handed over in it.
 pub record CallPeriod : Type 0 where
   pub up : List ℕ
   pub pcm : List ℕ

@@ -42,14 +42,15 @@ pub record CoderStands (law : Law) (stretch : List CallFrame) (m : CoderMemory) 
   pub encoder : encoder.Stands (map (samples_of law) stretch) m.encoder
   pub tx : tx.Stands (coded_frames law stretch) m.tx
 
--- What holds of the downlink half after the periods `ts`, between periods and midway in the next one, whose settings are `now`.
+-- What holds of the downlink half after the periods `ts`, between periods and midway in the next one, whose settings
+-- are `now`.
 pub record DownStands (who : Who) (ts : List CallPeriod) (now : Settings) (d : DownMemory) : Type 0 where
   pub law : d.law ≡ who.law
   -- each period has 160 octets of the Pcm line
   pub pcms : All (λ t. length t.pcm ≡ 160) ts
   pub history : IsHistory (down_periods ts)
-  -- held are the octets of the Pcm line from the next frame's start on, or, if that start lies past the line, the number of octets to skip;
-  -- in store is the downlink that is made and hasn't gone out
+  -- held are the octets of the Pcm line from the next frame's start on, or, if that start lies past the line, the
+  -- number of octets to skip; in store is the downlink that is made and hasn't gone out
   pub places : Holds (pcm_of ts) (down_made who (frames_of ts)) (320 * length (down_periods ts)) (next_start (frames_of ts)) d.framer
   -- shifts are frozen within a bridge and while a handed frame waits
   pub frozen : d.align.frozen ≡ (now.bridged || is_some (handed_due (down_periods ts) (frames_of ts)))

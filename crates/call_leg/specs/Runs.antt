@@ -1,6 +1,6 @@
--- The runs of a leg's two halves over n places, each with the octets of one period. If the leg is bridged, its bridge ends at place m. The
--- uplink half's run has the octets of the Up line, and gives notes. The downlink half's run has notes, and no octets of the Up line. Lists of
--- periods have the newest first.
+-- The runs of a leg's two halves over n places, each with the octets of one period. If the leg is bridged, its bridge
+-- ends at place m. The uplink half's run has the octets of the Up line, and gives notes. The downlink half's run has
+-- notes, and no octets of the Up line. Lists of periods have the newest first.
 use Rattle.std.specs.Prelude.{◌≡◌, ℕ, zero, suc, ◌<◌, ◌&&◌, nat_lt, if◌then◌else◌, Option, Some, None, is_some, List, [], ◌∷◌, ◌++◌, length, get_or}
 use Rattle.trau_bits.specs.Bits.{octets_of}
 use Rattle.trau_params.specs.Bits260.{bits260}
@@ -42,8 +42,8 @@ downs_run h ups pcms handed (suc k) = downs_run h ups pcms handed k ++ octets_of
 abbrev pub EndsAt : LegHistory → ℕ → ℕ → (ℕ → Option (List ℕ)) → Type 0
 EndsAt h m n handed = (k : ℕ) → k < n → is_some (handed k) ≡ (h.now.bridged && nat_lt k m)
 
--- The run of an uplink half: the n notes and the Out octets for these octets of the Up line after the leg's history, whatever its Pcm line
--- has and whatever frames are handed over.
+-- The run of an uplink half: the n notes and the Out octets for these octets of the Up line after the leg's history,
+-- whatever its Pcm line has and whatever frames are handed over.
 pub record UpRun (h : LegHistory) (ups : ℕ → List ℕ) (m n : ℕ) (notes : List Note) (octets : List ℕ) : Type 0 where
   pub all : length notes ≡ n
   pub told : (pcms : ℕ → List ℕ) (handed : ℕ → Option (List ℕ)) → EndsAt h m n handed → (k : ℕ) (none : Note) → k < n →
@@ -52,7 +52,8 @@ pub record UpRun (h : LegHistory) (ups : ℕ → List ℕ) (m n : ℕ) (notes : 
 
 -- ---- the downlink half
 
--- What is handed over in place k: the bits of its item, if the leg is bridged. The bridge ends at the place after the last item's.
+-- What is handed over in place k: the bits of its item, if the leg is bridged. The bridge ends at the place after the
+-- last item's.
 abbrev pub handed_run : LegHistory → List EffectiveFields → ℕ → Option (List ℕ)
 handed_run h items k = if h.now.bridged && nat_lt k (length items) then Some (bits260 (handed_fields (get_or items k Quiet))) else None
 
@@ -72,7 +73,8 @@ noted_downs h notes items pcms zero = []
 noted_downs h notes items pcms (suc k) = noted_downs h notes items pcms k
     ++ octets_of (by_notes.down_now h.who.law (noted_run h notes items pcms (suc k)))
 
--- The run of a downlink half: the Down octets for these n notes, items and octets of the Pcm line after the leg's history.
+-- The run of a downlink half: the Down octets for these n notes, items and octets of the Pcm line after the leg's
+-- history.
 pub record DownRun (h : LegHistory) (notes : List Note) (items : List EffectiveFields) (pcms : ℕ → List ℕ) (n : ℕ) (octets : List ℕ) : Type 0 where
   pub all : length notes ≡ n
   pub down : octets ≡ noted_downs h notes items pcms n

@@ -17,8 +17,9 @@ pub record Stands (who : Who) (ts : List CallPeriod) (now : Settings) (m : LegMe
 abbrev pub OfItsCall : LegMemory → (Who → List CallPeriod → Settings → Type 0) → Type 0
 OfItsCall m P = (who : Who) (ts : List CallPeriod) (now : Settings) → Stands who ts now m → P who ts now
 
--- Between the halves of a period: its octets of the Up line were processed, and `handed` was handed over. The uplink half has the memory
--- after this period, whatever that one has on Pcm and is handed (something exactly if it lies in a bridge). There
+-- Between the halves of a period: its octets of the Up line were processed, and `handed` was handed over. The uplink
+-- half has the memory after this period, whatever that one has on Pcm and is handed (something exactly if it lies in a
+-- bridge). There
 -- always is such a period.
 pub record Midway (who : Who) (ts : List CallPeriod) (now : Settings) (up : List ℕ) (handed : Option (List ℕ)) (m : LegMemory) : Type 0 where
   pub later : (pcm : List ℕ) (given : Option (List ℕ)) → is_some given ≡ now.bridged →

@@ -1,5 +1,5 @@
 -- What each period of a call's uplink brings (the frames of GSM 08.60; what they ask for is this project's profile).
-use Rattle.std.specs.Prelude.{ℕ, Bool, true, false, Option, Some, None, unwrap_or}
+use Rattle.std.specs.Prelude.{ℕ, Bool, false, Option, Some, None, unwrap_or}
 use Rattle.trau_frame.specs.declared.frames.Kind.{Kind}
 use Rattle.trau_frame.specs.declared.frames.Kind.TheVariants as kinds
 use Rattle.trau_frame.specs.UpFrame.{UpWords, words_in, up_words_of}

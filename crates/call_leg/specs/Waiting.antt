@@ -4,7 +4,8 @@ use Rattle.down_framer.specs.Made.{Period, MadeFrame, latest_start, made_from, h
 use Rattle.call_leg.specs.Periods.{CallPeriod, handed_in}
 use Rattle.call_leg.specs.Down.{CallFrame, down_periods}
 
--- the number of the period whose handed frame goes out n frames after the next one; `None` if none was handed over in it, or before any bridge
+-- the number of the period whose handed frame goes out n frames after the next one; `None` if none was handed over in
+-- it, or before any bridge
 abbrev pub place_at : {A : Type 0} → List (Period A) → List (MadeFrame A) → ℕ → Option ℕ → Option ℕ
 place_at ps fs n None = None
 place_at ps fs n (Some s) = if hands_at (s + made_from s fs + n) ps then Some (s + made_from s fs + n) else None

@@ -25,6 +25,8 @@ ghost use Rattle.call_leg.specs.Noted.{noted_periods};
 ghost use Rattle.call_leg.specs.Noted as by_notes;
 ghost use Rattle.call_leg.specs.Runs.{LegHistory, UpRun, DownRun, AreNotes, outs_run, downs_run, handed_run};
 
+use crate::halves::UpLeg;
+
 /// The Down line of a call is a prefix of the downlink that is made: 320 bits a period.
 pub fn the_down_line_is_made()
     ensures { (who : Who) (ts : List CallPeriod) → down_line who ts ≡ take (320 * length ts) (down_made who (frames_of ts)) }
@@ -66,7 +68,8 @@ pub fn the_handing_over_stands()
         Midway who ts now up (Some (bits260 (handed_fields e))) (with_down m (after_handing m.down e)) }
 {}
 
-/// The downlink half of a period, with its 160 octets of the Pcm line: the memory after it, and its bits of the Down line.
+/// The downlink half of a period, with its 160 octets of the Pcm line: the memory after it, and its bits of the Down
+/// line.
 pub fn the_downlink_half_stands()
     ensures { (who : Who) (ts : List CallPeriod) (now : Settings) (up pcm : List ℕ) (handed : Option (List ℕ)) (m : LegMemory) → length pcm ≡ 160 →
         is_some handed ≡ now.bridged →
@@ -86,7 +89,8 @@ pub fn the_period_stands()
         now.bridged ≡ false → (period_worked m up pcm).1 ≡ down_now who (period_with now up pcm None ∷ ts)) }
 {}
 
-/// Orders between periods: the level or the DTX mode is set, a bridge begins while no handed frame waits, a bridge ends.
+/// Orders between periods: the level or the DTX mode is set, a bridge begins while no handed frame waits, a bridge
+/// ends.
 pub fn orders_stand()
     ensures level { (level : ℤ) (m : LegMemory) → OfItsCall m (λ who ts now.
         Stands who ts (with_level level now) (with_down m (set_level level m.down))) }
@@ -133,8 +137,8 @@ pub fn the_downlink_has_its_length()
     ensures { (who : Who) (ts : List CallPeriod) → length (down_made who (frames_of ts)) ≡ 320 + 2 * next_start (frames_of ts) }
 {}
 
-/// A period of a leg is a period of its uplink half and one of its downlink half, which gets the note of the uplink half. By
-/// definition (`up_worked`): a leg is its halves.
+/// A period of a leg is a period of its uplink half and one of its downlink half, which gets the note of the uplink
+/// half. By definition (`up_worked`): a leg is its halves.
 pub fn the_halves_are_the_leg()
     ensures leg { (m : LegMemory) → joined (up_of m) m.down ≡ m }
     ensures up { (m : LegMemory) (up : List ℕ) → let t = up_turned (up_of m) up in up_worked m up ≡ (t.0.eff, t.1, joined t.2 (noted m.down t.0)) }
@@ -158,3 +162,11 @@ pub fn the_runs_are_the_call()
     ensures down { (h : LegHistory) (ups pcms : ℕ → List ℕ) (items : List EffectiveFields) (n : ℕ) (notes : List Note) (downs : List ℕ) →
         AreNotes h ups pcms items n notes → DownRun h notes items pcms n downs → downs ≡ downs_run h ups pcms (handed_run h items) n }
 {}
+
+/// An uplink half has had at most 4,294,967,295 periods.
+pub fn periods_are_few(up: &UpLeg)
+    ensures { up.now.search.periods ≤ 4294967295 }
+{
+    // For the prover: reading the field brings in the invariant of its type.
+    let _ = &up.search;
+}

@@ -105,8 +105,8 @@ impl Leg {
         // If the leg stands for the periods of a call (`Stands`), it is now midway in the next one (`Midway`) ..
         ensures history { OfItsCall self.old (λ who ts now. Midway who ts now up.now None self.new) }
 
-        // .. and its effective frame and octets are the call's, whatever that period has on Pcm and is handed. For `out`,
-        // a frame is handed over exactly if the period lies in a bridge.
+        // .. and its effective frame and octets are the call's, whatever that period has on Pcm and is handed. For
+        // `out`, a frame is handed over exactly if the period lies in a bridge.
         ensures effective { (pcm : List ℕ) (handed : Option (List ℕ)) → OfItsCall self.old (λ who ts now.
             effective_fields result ≡ effective_now who.number (period_with now up.now pcm handed ∷ ts)) }
         ensures out { (pcm : List ℕ) (handed : Option (List ℕ)) → OfItsCall self.old (λ who ts now.
@@ -223,7 +223,7 @@ impl Leg {
         ensures memory { result ≡ self.now.down.sent }
         ensures history { OfItsCall self.now (λ who ts now. result ≡ sent_now ts now) }
     {
-        self.up.periods_are_few();
+        crate::laws::periods_are_few(&self.up);
         self.down.sent()
     }
 
@@ -232,7 +232,7 @@ impl Leg {
         ensures memory { result ≡ record self.now.counts { made = self.now.down.made } }
         ensures history { OfItsCall self.now (λ who ts now. result ≡ call_counts ts) }
     {
-        self.up.periods_are_few();
+        crate::laws::periods_are_few(&self.up);
         Counts {
             made: self.down.made(),
             ..self.up.counts()

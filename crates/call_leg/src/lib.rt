@@ -1,5 +1,7 @@
 //! One call: its leg, from period to period of 20 ms.
 //!
+//! Layer: One call.
+//!
 //! A leg works between the four lines of a call. In each period it reads 40 octets of Up and 160 of Pcm, and writes
 //! 160 of Out and 40 of Down. In the uplink it searches for frames (`frame_sync`, `trau_frame`), makes the period's
 //! effective frame (`rx_handler`) and decodes it (`fr_decoder`, `trau_alaw`). In the downlink it finds the octets of

@@ -74,13 +74,6 @@ impl UpLeg {
         self.counts
     }
 
-    /// For the prover only: it has had at most 4,294,967,295 periods.
-    pub fn periods_are_few(&self)
-        ensures { self.now.search.periods ≤ 4294967295 }
-    {
-        let _ = &self.search;
-    }
-
     /// Takes over from the downlink half whether a bridge is on.
     pub fn agree(&mut self, down: &DownLeg)
         ensures step { self.new ≡ up_of (joined self.old down.now) }
@@ -121,8 +114,8 @@ impl DownLeg {
         ensures step { down_turned self.old note.now (item_of (option_copied item.entry)) pcm.now ≡ (bits_of down.new, self.new) }
         ensures bridged { self.new.bridged ≡ self.old.bridged }
 
-        // If the half stands for the periods of a call, `note` is that of the next period, and `item` is given exactly if
-        // that period lies in a bridge, the half now stands for the periods with that one ..
+        // If the half stands for the periods of a call, `note` is that of the next period, and `item` is given exactly
+        // if that period lies in a bridge, the half now stands for the periods with that one ..
         ensures history { (who : Who) (ts : List CallPeriod) (now : Settings) (up : List ℕ) → Between who ts now self.old →
             note.now ≡ note_in who.number ts up →
             is_some item.entry ≡ now.bridged →

@@ -32,8 +32,8 @@ fn decode(decoder: &mut Decoder, law: Law, p: &Params, octets: &mut [u8; 160])
     compress_all(law, &x, octets);
 }
 
-/// The octets of a period: its effective frame, decoded, if the leg is alone and the period isn't quiet; else idle octets,
-/// and the decoder is reset.
+/// The octets of a period: its effective frame, decoded, if the leg is alone and the period isn't quiet; else idle
+/// octets, and the decoder is reset.
 pub(crate) fn play(
     decoder: &mut Decoder,
     law: Law,

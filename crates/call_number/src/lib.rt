@@ -1,5 +1,7 @@
 //! The numbers of calls.
 //!
+//! Layer: Numbers, bits and lines.
+//!
 //! Lines, orders, tables and reports identify calls by their numbers, 1 to 4,096.
 //!
 //! Definition: `specs/CallNumber.antt`.

@@ -1,4 +1,5 @@
--- For crates above: a job's first phase ends after its last place (`first-finished`, `first_after`), with one note for each (`length-notes`).
+-- For crates above: a job's first phase ends after its last place (`first-finished`, `first_after`), with one note for
+-- each (`length-notes`).
 -- The two phases of a job, and the run place by place.
 use Rattle.std.proofs.Common.{◌≡◌, ℕ, zero, suc, ◌+◌, ◌-◌, ◌<◌, ◌≤◌, min, max, true, None, List, [], ◌∷◌, ◌++◌, length, take, get_or, length-append, refl, sym}
 use Rattle.std.proofs.Common.{ap, ◌∙◌, ⊎_elim, arith}

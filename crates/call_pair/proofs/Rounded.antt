@@ -1,4 +1,5 @@
--- For crates above: a round of one call or of two is the run of their halves, place by place (`one-rounded`, `two-rounded`).
+-- For crates above: a round of one call or of two is the run of their halves, place by place (`one-rounded`,
+-- `two-rounded`).
 use Rattle.std.proofs.Common.{◌≡◌, sym, ap, ◌∙◌, ℕ, min, [], take}
 use Rattle.call_pair.specs.Memory.{HalfMemory, One, Two}
 use Rattle.call_pair.specs.Jobs.{finished_job}

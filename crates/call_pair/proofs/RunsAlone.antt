@@ -1,4 +1,5 @@
--- For crates above: a job of one call ends as the call's history says (`one-finished`); places keep the bridge (`still-bridged`).
+-- For crates above: a job of one call ends as the call's history says (`one-finished`); places keep the bridge
+-- (`still-bridged`).
 -- The job of one call from place to place, for every history of the call.
 use Rattle.std.proofs.Common.{◌≡◌, ℕ, zero, suc, ◌+◌, ◌<◌, ◌≤◌, ltb, Bool, true, false, List, length, refl, sym, ap, subst, ◌∙◌, arith}
 use Rattle.rx_handler.specs.Origin.{Quiet}

@@ -37,8 +37,8 @@ alone_periods (suc k) s = period_at k s None ∷ alone_periods k s
 
 -- ---- a call with a partner
 
--- What a call hands over in place k, after these periods: the bits of its effective frame, if it has that place. The effective frame
--- depends on the octets of the Up line alone, so the period is taken with nothing handed to it.
+-- What a call hands over in place k, after these periods: the bits of its effective frame, if it has that place. The
+-- effective frame depends on the octets of the Up line alone, so the period is taken with nothing handed to it.
 abbrev pub handed_at : ℕ → Start → List CallPeriod → Option (List ℕ)
 handed_at k s ts = if nat_lt k s.io.given
     then Some (bits260 (handed_fields (effective_now s.io.call (period_at k s None ∷ ts))))
@@ -69,8 +69,8 @@ downs_of who zero ts = []
 downs_of who (suc k) [] = []
 downs_of who (suc k) (t ∷ past) = downs_of who k past ++ octets_of (down_now who (t ∷ past))
 
--- The octets of this call after its first k places, whose periods are the newest of these: Out and Down begin with the octets of the
--- periods, and are unchanged after them.
+-- The octets of this call after its first k places, whose periods are the newest of these: Out and Down begin with the
+-- octets of the periods, and are unchanged after them.
 abbrev pub io_after : Who → ℕ → List CallPeriod → IoMemory → IoMemory
 io_after who k ts io = record {
   call = io.call;

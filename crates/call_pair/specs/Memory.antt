@@ -3,8 +3,8 @@ use Rattle.std.specs.Prelude.{◌≡◌, ℕ, ◌-◌, ◌*◌, ◌≤◌, List,
 use Rattle.call_number.specs.CallNumber.{IsCallNumber}
 use Rattle.call_leg.specs.Memory.{LegMemory}
 
--- the octets of a call in a round: those of its Up and Pcm lines, those for its Out and Down lines; how many periods are given, and how
--- many of them are done
+-- the octets of a call in a round: those of its Up and Pcm lines, those for its Out and Down lines; how many periods
+-- are given, and how many of them are done
 pub record IoMemory : Type 0 where
   pub call : ℕ
   pub up : List ℕ
@@ -47,7 +47,8 @@ io_planned c n = record {
 abbrev pub places_left : IoMemory → ℕ
 places_left io = io.given - io.done
 
--- All buffers have room for the same number of periods, at least for those given: 40 octets a period in Up and Down, 160 in Pcm and Out.
+-- All buffers have room for the same number of periods, at least for those given: 40 octets a period in Up and Down,
+-- 160 in Pcm and Out.
 pub record HaveRoom (up pcm out down : List ℕ) (given : ℕ) : Type 0 where
   pub periods : ℕ
   pub enough : given ≤ periods

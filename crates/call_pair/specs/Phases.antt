@@ -10,8 +10,8 @@ use Rattle.call_pair.specs.Periods.{up_at, pcm_at, with_out, with_period, has_pe
 use Rattle.call_pair.specs.declared.call_job.Phase.{Phase}
 use Rattle.call_pair.specs.declared.call_job.Phase.TheVariants.{First, Second}
 
--- The memory of a call's job: the halves of its leg; its octets, with the number of places done in the present phase; the notes of the
--- first phase; the partner's effective frames, by place; and the place at which a bridge ends.
+-- The memory of a call's job: the halves of its leg; its octets, with the number of places done in the present phase;
+-- the notes of the first phase; the partner's effective frames, by place; and the place at which a bridge ends.
 pub record CallMemory : Type 0 where
   pub up : UpMemory
   pub down : DownMemory
@@ -145,7 +145,8 @@ frames_in notes = map (λ (n : Note). n.eff) notes
 abbrev pub hear_from : CallMemory → CallMemory → CallMemory
 hear_from p j = turn_down (with_partner (take j.bridge_end (frames_in p.notes)) j)
 
--- a half at the end of its first phase, where a bridge that it has ends at place m, and at the end of the second, with these frames of its partner
+-- a half at the end of its first phase, where a bridge that it has ends at place m, and at the end of the second, with
+-- these frames of its partner
 abbrev pub first_phase : ℕ → HalfMemory → CallMemory
 first_phase m h = job_at_phase_end (job_at_start m h)
 

@@ -21,8 +21,8 @@ pcms_in s k = pcm_at k s.io
 
 -- ---- the phases
 
--- The first phase gives the run of the uplink half: its notes, and its octets at the start of Out. The half then has the memory after the
--- round's periods. A bridge ends at place m.
+-- The first phase gives the run of the uplink half: its notes, and its octets at the start of Out. The half then has
+-- the memory after the round's periods. A bridge ends at place m.
 pub record Hears (s : Start) (m : ℕ) (j : CallMemory) : Type 0 where
   pub octets : List ℕ
   pub run : UpRun (history_of s) (ups_in s) m s.io.given j.notes octets
@@ -32,8 +32,8 @@ pub record Hears (s : Start) (m : ℕ) (j : CallMemory) : Type 0 where
       UpStands (who_of s) (periods_run (history_of s) (ups_in s) pcms handed s.io.given)
       (settings_past s.io.given m s.now) j.up
 
--- The second phase gives the run of the downlink half, with these frames of the partner: its octets at the start of Down. The half then has
--- the memory after the round's periods, whatever octets of Up gave the notes.
+-- The second phase gives the run of the downlink half, with these frames of the partner: its octets at the start of
+-- Down. The half then has the memory after the round's periods, whatever octets of Up gave the notes.
 pub record Speaks (s : Start) (items : List EffectiveFields) (j : CallMemory) : Type 0 where
   pub octets : List ℕ
   pub run : DownRun (history_of s) j.notes items (pcms_in s) s.io.given octets
@@ -58,7 +58,8 @@ io_with io outs downs = record {
   done = io.given;
 }
 
--- A half's octets are those of the run of its uplink half, which gives these notes, and of the run of its downlink half with these items.
+-- A half's octets are those of the run of its uplink half, which gives these notes, and of the run of its downlink half
+-- with these items.
 pub record HalfRuns (s : Start) (m : ℕ) (notes : List Note) (items : List EffectiveFields)
     (h : HalfMemory) : Type 0 where
   pub outs : List ℕ

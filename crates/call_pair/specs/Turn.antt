@@ -11,7 +11,8 @@ use Rattle.call_pair.specs.Phases.{next_up, down_before, item_if}
 abbrev pub effective : ℕ → HalfMemory → EffectiveFields
 effective m h = (next_up m h.io (up_of h.leg)).0.eff
 
--- The next place of a half: the uplink half; within a bridge, the handing over of the partner's effective frame; and the downlink half.
+-- The next place of a half: the uplink half; within a bridge, the handing over of the partner's effective frame; and
+-- the downlink half.
 abbrev pub half_place : ℕ → EffectiveFields → HalfMemory → HalfMemory
 half_place m partner h =
     let up = next_up m h.io (up_of h.leg) in
@@ -24,7 +25,8 @@ abbrev pub half_place_if : Bool → ℕ → EffectiveFields → HalfMemory → H
 half_place_if true m partner h = half_place m partner h
 half_place_if false m partner h = h
 
--- A bridge of two halves ends after the places of the shorter. The effective frame of a half without a place goes nowhere.
+-- A bridge of two halves ends after the places of the shorter. The effective frame of a half without a place goes
+-- nowhere.
 abbrev pub job_place : Job → Job
 job_place (One h) = One (half_place_if (has_period h.io) 0 Quiet h)
 job_place (Two a b) =

@@ -193,7 +193,7 @@ impl CallJob {
         ensures memory { result ≡ record self.now.up.counts { made = self.now.down.made } }
         ensures periods { self.now.up.search.periods ≤ 4294967295 }
     {
-        self.up.periods_are_few();
+        call_leg::laws::periods_are_few(&self.up);
         Counts {
             made: self.down.made(),
             ..self.up.counts()
@@ -205,20 +205,20 @@ impl CallJob {
         ensures memory { result ≡ self.now.down.sent }
         ensures periods { self.now.up.search.periods ≤ 4294967295 }
     {
-        self.up.periods_are_few();
+        call_leg::laws::periods_are_few(&self.up);
         self.down.sent()
     }
 
-    /// The effective frame of place k.
-    pub fn frame(&self, k: usize) -> Effective
+    // The effective frame of place k.
+    fn frame(&self, k: usize) -> Effective
         requires { k < length self.now.notes }
         ensures { effective_fields result ≡ (note_at k self.now.notes).eff }
     {
         self.notes[k].eff
     }
 
-    /// Appends the effective frames of the first `places` places to an empty list that has room for them.
-    pub fn write_frames(&self, places: u32, frames: &mut Vec<Effective>)
+    // Appends the effective frames of the first `places` places to an empty list that has room for them.
+    fn write_frames(&self, places: u32, frames: &mut Vec<Effective>)
         requires told { places ≤ length self.now.notes }
         requires empty { frames.old.items ≡ [] }
         requires room { places ≤ vec_capacity frames.old }
@@ -231,7 +231,8 @@ impl CallJob {
         }
     }
 
-    /// Starts the second phase. The first is finished, and `partner` has the frames of all places before the bridge's end.
+    /// Starts the second phase. The first is finished, and `partner` has the frames of all places before the bridge's
+    /// end.
     pub fn turn_down(&mut self)
         requires first { self.old.phase ≡ First }
         requires finished { periods_left self.old ≡ 0 }

@@ -66,12 +66,13 @@ fn put_zeros(octets: &mut Vec<u8>, number: usize)
     ensures { octets.new.items ≡ replicate number 0 }
 {
     octets.clear();
+    // There is room, so this takes no memory and can't fail.
     let _ = octets.resize(number, 0);
 }
 
 impl LegIo {
     /// No period of the call with this number, 1 to 4,096. It takes no memory.
-    pub fn none(alloc: Global, call: u32) -> LegIo
+    pub(crate) fn none(alloc: Global, call: u32) -> LegIo
         requires { IsCallNumber call }
         ensures { result ≡ no_octets call }
     {
@@ -94,7 +95,8 @@ impl LegIo {
         self.done = 0;
     }
 
-    /// Makes room for `periods` periods, all of them given and none done, with octets of 0. On an error no period is given.
+    /// Makes room for `periods` periods, all of them given and none done, with octets of 0. On an error no period is
+    /// given.
     pub(crate) fn plan(&mut self, periods: u32) -> Result<(), AllocError>
         ensures planned { IfOk result (λ u. self.new ≡ io_planned self.old.call periods) }
         ensures refused { IfErr result (λ e. (self.new.given ≡ 0) × (self.new.done ≡ 0)) }

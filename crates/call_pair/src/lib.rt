@@ -1,5 +1,7 @@
 //! The jobs of a round: the two halves of each call's leg, with the octets of the round.
 //!
+//! Layer: The report, the pool, the jobs of a round.
+//!
 //! Between the rounds, which read and write the lines' octets, and the pool (`pool_run`), which runs jobs in
 //! slices. A job takes a call's leg (`call_leg`) with the octets of its Up and Pcm lines for a round's periods, and
 //! fills those of its Out and Down lines. It has two phases: all its uplink halves, then all its downlink halves.

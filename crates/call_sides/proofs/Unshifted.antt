@@ -10,8 +10,8 @@ use Rattle.down_framer.proofs.Due.{hands_at-new, one_made, none_made, due-some, 
 use Rattle.down_framer.proofs.Latest.{started}
 use Rattle.call_leg.specs.Periods.{CallPeriod}
 use Rattle.call_leg.specs.Down.{CallFrame, down_period, down_periods, frames_of}
-use Rattle.call_leg.proofs.Enter.{length-down_periods}
-use Rattle.call_leg.proofs.Step.{begun-same}
+use Rattle.call_leg.proofs.Downlink.Enter.{length-down_periods}
+use Rattle.call_leg.proofs.Downlink.Step.{begun-same}
 use Rattle.call_sides.specs.Sent.{AsksNoShift, AreUnshifted, frames_by_period}
 
 -- a period fewer

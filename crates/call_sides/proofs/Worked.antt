@@ -26,11 +26,12 @@ use Rattle.call_sides.specs.Sent.{AsksNoShift, AreUnshifted, frames_by_period, s
 abbrev who : Who
 who = record { number = 1; law = A }
 
--- a period at this level, with these octets of the Up line; in a bridge, with what is handed over, and whether it starts there
+-- a period at this level, with these octets of the Up line; in a bridge, with what is handed over, and whether it
+-- starts there
 abbrev period : List ℕ → ℤ → Bool → Option (List ℕ) → CallPeriod
 period up level starts handed = record { up = up; pcm = replicate 160 213; level = level; mode = On; starts = starts; handed = handed }
 
--- ---- three periods whose uplink has no frame: the receive side is quiet, and the line has two idle frames after 320 ones
+-- ---- three periods without an uplink frame: the receive side is quiet, and after 320 ones come two idle frames
 
 abbrev silent : List CallPeriod
 silent = replicate 3 (period (replicate 40 0) (pos 256) false None)

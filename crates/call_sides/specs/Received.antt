@@ -16,8 +16,8 @@ abbrev pub receiver_periods : List CallPeriod → List ReceiverPeriod
 receiver_periods [] = []
 receiver_periods (t ∷ past) = receiver_period (heard_as (sighting_after past t.up)) (is_some t.handed) ∷ receiver_periods past
 
--- Each bridge has a period at least: the one at which it starts. (Without one it only resets the codecs, for which the receive side has no
--- operation.)
+-- Each bridge has a period at least: the one at which it starts. (Without one it only resets the codecs, for which the
+-- receive side has no operation.)
 abbrev pub BridgesHavePeriods : List CallPeriod → Type 0
 BridgesHavePeriods ts = All (λ t. t.starts ≡ true → is_some t.handed ≡ true) ts
 

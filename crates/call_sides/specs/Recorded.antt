@@ -1,4 +1,5 @@
--- A call whose Up line was recorded frame by frame: each period of it is one whole frame. Lists have the newest period first.
+-- A call whose Up line was recorded frame by frame: each period of it is one whole frame. Lists have the newest period
+-- first.
 use Rattle.std.specs.Prelude.{◌≡◌, ℕ, Bool, is_some, All, List, [], ◌∷◌, map, length}
 use Rattle.trau_bits.specs.Bits.{bits_of}
 use Rattle.trau_frame.specs.UpFrame.{words_in}
@@ -27,8 +28,8 @@ FrameAsksNoShift octets = let w = words_in (bits_of octets) in AsksNoShift (fiel
 abbrev pub recorded_periods : List CallPeriod → List ReceiverPeriod
 recorded_periods ts = map (λ t. receiver_period (heard_in_uplink (bits_of t.up)) (is_some t.handed)) ts
 
--- The period t of a call records what the receive side got in p: its 40 octets of the Up line are the uplink frame for the 33 octets, the kind and
--- the TAF by which p was heard, and it lies in a bridge exactly if p was handed over.
+-- The period t of a call records what the receive side got in p: its 40 octets of the Up line are the uplink frame for
+-- the 33 octets, the kind and the TAF by which p was heard, and it lies in a bridge exactly if p was handed over.
 pub record IsRecordOf (p : ReceiverPeriod) (t : CallPeriod) : Type 0 where
   pub frame : List ℕ
   pub kind : ℕ

@@ -1,4 +1,5 @@
--- The Down line of a call by the transmit side of the C library. Lists have the newest period and the newest frame first.
+-- The Down line of a call by the transmit side of the C library. Lists have the newest period and the newest frame
+-- first.
 use Rattle.std.specs.Prelude.{◌≡◌, ℕ, ◌*◌, pos, Bool, true, not, ◌&&◌, if◌then◌else◌, Option, Some, None, is_none, IfSome, option_map, All, List, [], ◌∷◌}
 use Rattle.std.specs.Prelude.{◌++◌, length, map, replicate}
 use Rattle.trau_alaw.specs.declared.Law.{Law}
@@ -22,8 +23,8 @@ use Rattle.call_sides.specs.Received.{receiver_periods, BridgesHavePeriods}
 abbrev pub period_of_frame : Law → CallFrame → SenderPeriod
 period_of_frame law f = sender_period (samples_of law f) (level_now f.load) (dtx_now f.load)
 
--- The newest frame: its handed bits with SP 1, if it carries some; else idle, if its period is quiet; else what the transmit side, from home on
--- over the coded frames of its stretch, sends for it.
+-- The newest frame: its handed bits with SP 1, if it carries some; else idle, if its period is quiet; else what the
+-- transmit side, from home on over the coded frames of its stretch, sends for it.
 abbrev pub frame_sent : Who → List CallFrame → DownFrame
 frame_sent who [] = down.Idle
 frame_sent who (f ∷ fs) = elim f.carries [
@@ -38,7 +39,8 @@ frame_sent who (f ∷ fs) = elim f.carries [
 abbrev pub AsksNoShift : Option ℕ → Type 0
 AsksNoShift field = IfSome field (λ a. shift_of a ≡ None)
 
--- Each period has 160 octets of the Pcm line, no alignment field asks for a shift, and bridges go on without a gap and have periods.
+-- Each period has 160 octets of the Pcm line, no alignment field asks for a shift, and bridges go on without a gap and
+-- have periods.
 pub record AreUnshifted (ts : List CallPeriod) : Type 0 where
   pub pcms : All (λ t. length t.pcm ≡ 160) ts
   pub fields : All AsksNoShift (map (λ p. p.field) (down_periods ts))
@@ -64,17 +66,20 @@ frames_by_period (t ∷ past) = period_frame t past ∷ frames_by_period past
 abbrev pub is_quiet_in : Who → CallPeriod → List CallPeriod → Bool
 is_quiet_in who t past = is_quiet (effective_now who.number (receiver_periods (t ∷ past)))
 
--- what the transmit side gets of a period: its octets of the Pcm line, expanded by the call's law, and the level and DTX in force
+-- what the transmit side gets of a period: its octets of the Pcm line, expanded by the call's law, and the level and
+-- DTX in force
 abbrev pub own_period : Law → CallPeriod → List CallPeriod → SenderPeriod
 own_period law t past = sender_period (expanded law t.pcm) t.level (dtx_now (t ∷ past))
 
--- The periods since the transmit side was at home. It is at home before the first period, and after each one that is quiet or lies in a bridge.
+-- The periods since the transmit side was at home. It is at home before the first period, and after each one that is
+-- quiet or lies in a bridge.
 abbrev pub sender_periods : Who → List CallPeriod → List SenderPeriod
 sender_periods who [] = []
 sender_periods who (t ∷ past) =
     if is_none t.handed && not (is_quiet_in who t past) then own_period who.law t past ∷ sender_periods who past else []
 
--- The frame of a period: what is handed over in it, with SP 1; else idle, if it is quiet; else what the transmit side sends.
+-- The frame of a period: what is handed over in it, with SP 1; else idle, if it is quiet; else what the transmit side
+-- sends.
 abbrev pub frame_in : Who → CallPeriod → List CallPeriod → DownFrame
 frame_in who t past = elim t.handed [
   | Some item ↦ down.Speech item true

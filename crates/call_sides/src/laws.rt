@@ -21,13 +21,14 @@ ghost use Rattle.call_sides.specs.Sent.{frame_sent, AsksNoShift, AreUnshifted, f
 ghost use Rattle.call_sides.specs.Recorded.{AreWholeFrames, FrameAsksNoShift, recorded_periods, AreRecordsOf};
 ghost use Rattle.call_sides.specs.Written.{AreOctets33, kind_of_sp};
 
-/// The Out line of a call has the samples that the receive side gives for what the call hears, compressed by the call's law.
-/// Within a bridge the receive side hands its effective frame over. Each bridge must have a period.
+/// The Out line of a call has the samples that the receive side gives for what the call hears, compressed by the call's
+/// law. Within a bridge the receive side hands its effective frame over. Each bridge must have a period.
 pub fn the_receive_side_gives_the_out_line()
     ensures octets { (who : Who) (ts : List CallPeriod) → BridgesHavePeriods ts → out_of who ts ≡ octets_received who ts }
     ensures line { (who : Who) (ts : List CallPeriod) → BridgesHavePeriods ts → out_line who ts ≡ line_received who ts }
 
-    // The effective frame of each period, which is what the call hands to the partner of a bridge, is the receive side's.
+    // The effective frame of each period, which is what the call hands to the partner of a bridge, is the receive
+    // side's.
     ensures effective { (call : ℕ) (ts : List CallPeriod) → effective_now call ts ≡ sides.effective_now call (receiver_periods ts) }
 {}
 
@@ -37,8 +38,8 @@ pub fn the_transmit_side_gives_each_frame()
     ensures { (who : Who) (fs : List CallFrame) → frame_now who fs ≡ frame_sent who fs }
 {}
 
-/// The Down line of a call in which no alignment field asks for a shift. Each period has 160 octets of the Pcm line, and
-/// each bridge has a period and goes on without a gap.
+/// The Down line of a call in which no alignment field asks for a shift. Each period has 160 octets of the Pcm line,
+/// and each bridge has a period and goes on without a gap.
 pub fn the_transmit_side_gives_the_down_line()
     // Each period makes one frame, of its own 160 octets.
     ensures frames { (ts : List CallPeriod) → AreUnshifted ts → frames_of ts ≡ frames_by_period ts }

@@ -1,4 +1,5 @@
--- For crates above: each frame on the Down line, and so the line, is that of the call as a whole (`frame-placed`, `down-whole`).
+-- For crates above: each frame on the Down line, and so the line, is that of the call as a whole (`frame-placed`,
+-- `down-whole`).
 use Rattle.std.proofs.Common.{◌≡◌, refl, sym, ap, ◌∙◌, ℕ, ◌*◌, ◌≤◌, Bool, true, false, ◌&&◌, if◌then◌else◌, nat_le, nat_lt, Option, Some, None, List, [], ◌∷◌}
 use Rattle.std.proofs.Common.{◌++◌, length, map, take, reverse, replicate, arith, append_assoc, length-append}
 use Rattle.std.specs.Prelude.{◌==◌, not, is_none, unwrap_or}
@@ -18,16 +19,16 @@ use Rattle.call_leg.specs.Periods.{CallPeriod, bridges_begun, quiet_now, handed_
 use Rattle.call_leg.specs.Down as leg
 use Rattle.call_leg.specs.Down.{down_periods, frames_of}
 use Rattle.call_leg.proofs.Lines.{line-is_made}
-use Rattle.call_leg.proofs.Stretch.{frame-coded, frame-carries, frame-quiet}
+use Rattle.call_leg.proofs.Downlink.Stretch.{frame-coded, frame-carries, frame-quiet}
 use Rattle.call_spec.specs.Call.{is_quiet_at, item_at}
 use Rattle.call_spec.specs.Down.{is_coded, coded_goes_on, uncoded, stretch_frames, down_frames, bits_on_line, line, frames_of_call, down}
 use Rattle.call_spec.specs.History.{IsCallHistory, call_of_history}
 use Rattle.call_spec.proofs.Stretched.{reverse-more, before, stretched-more}
 use Rattle.call_spec.proofs.Reading.{length-settings_of, LooksBack}
-use Rattle.call_spec.proofs.Spans.{handed_in-period}
-use Rattle.call_spec.proofs.Starts.{starts-between}
+use Rattle.call_spec.proofs.Bridges.Spans.{handed_in-period}
+use Rattle.call_spec.proofs.Bridges.Starts.{starts-between}
 use Rattle.call_spec.proofs.Frames.{made-read}
-use Rattle.call_spec.proofs.Loads.{IsPlaced, ArePlaced, placed}
+use Rattle.call_spec.proofs.Bridges.Loads.{IsPlaced, ArePlaced, placed}
 use Rattle.call_spec.proofs.Sending.{zip-more, code, codes, frame_after, adds-frame}
 use Rattle.call_spec.proofs.PlacedFrames.{coded-placed, code-placed, codes-placed}
 

@@ -1,4 +1,5 @@
--- For crates above: the frames made in a history are the first ones of its call by number (`made-read`); later ones don't start earlier.
+-- For crates above: the frames made in a history are the first ones of its call by number (`made-read`); later ones
+-- don't start earlier.
 use Rattle.std.proofs.Common.{◌≡◌, refl, sym, ap, ◌∙◌, subst, inl, inr, ℕ, ◌+◌, ◌*◌, ◌<◌, ◌≤◌, zero, suc, Bool, true, false, if◌then◌else◌, nat_lt, Option}
 use Rattle.std.proofs.Common.{Some, None, List, [], ◌∷◌, ◌++◌, length, map, reverse, filter, All, arith}
 use Rattle.std.proofs.lemmas.Bool.{cases_lt, le-leb, lt-ltb, le-ltb, cond-true, cond-false, and_from}
@@ -13,14 +14,14 @@ use Rattle.down_framer.proofs.FrameLaws.{in_time}
 use Rattle.call_leg.specs.Who.{Who}
 use Rattle.call_leg.specs.Periods.{CallPeriod}
 use Rattle.call_leg.specs.Down.{down_periods, frames_of}
-use Rattle.call_leg.proofs.Enter.{length-down_periods}
-use Rattle.call_leg.proofs.Bounds.{frames-at_most}
+use Rattle.call_leg.proofs.Downlink.Enter.{length-down_periods}
+use Rattle.call_leg.proofs.Downlink.Bounds.{frames-at_most}
 use Rattle.call_spec.specs.Call.{Call, Span, periods, fields}
 use Rattle.call_spec.specs.Down.{without_items, first_frames, frame_by_number, made_among, frames_of_call, HasItem}
 use Rattle.call_spec.specs.History.{IsCallHistory, new_span, go_on, spans_in_history, call_of_history}
 use Rattle.call_spec.proofs.Stretched.{map-reverse}
-use Rattle.call_spec.proofs.Speaking.{OneSpeaks, carried_item-speaks}
-use Rattle.call_spec.proofs.Items.{made-in_order, one-made}
+use Rattle.call_spec.proofs.Bridges.OneItem.{OneSpeaks, carried_item-speaks}
+use Rattle.call_spec.proofs.Bridges.Items.{made-in_order, one-made}
 use Rattle.call_spec.proofs.Reading.{length-settings_of, fields-read}
 
 -- ---- bridges

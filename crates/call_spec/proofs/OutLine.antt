@@ -14,7 +14,7 @@ use Rattle.rx_handler.specs.Origin.{EffectiveFields, Quiet, Speech, Made}
 use Rattle.call_leg.specs.Who.{Who}
 use Rattle.call_leg.specs.Periods.{CallPeriod, effective_now, bridges_begun}
 use Rattle.call_leg.specs.Out.{plain_with, plain_stretch, decoded_octets, out_of, out_line}
-use Rattle.call_leg.proofs.Bridges.{plain-new}
+use Rattle.call_leg.proofs.Downlink.Bridges.{plain-new}
 use Rattle.call_spec.specs.Stretches.{stretches}
 use Rattle.call_spec.specs.Call.{effective_frame, starts_at}
 use Rattle.call_spec.specs.Out.{Decoding, parameters_of, decoding_at, plain_goes_on, plain_octets, parameters_in, stretch_octets, out}
@@ -22,8 +22,8 @@ use Rattle.call_spec.specs.History.{IsCallHistory, call_of_history}
 use Rattle.call_spec.proofs.Stretched.{reverse-more, before, newest, AddsTo, stretched-more}
 use Rattle.call_spec.proofs.Ranges.{IsPeriod, each_back, each-reverse}
 use Rattle.call_spec.proofs.Reading.{each-of, LooksBack, effective-period}
-use Rattle.call_spec.proofs.Spans.{item_at-period}
-use Rattle.call_spec.proofs.Starts.{starts_at-period}
+use Rattle.call_spec.proofs.Bridges.Spans.{item_at-period}
+use Rattle.call_spec.proofs.Bridges.Starts.{starts_at-period}
 
 -- ---- what is decoded in a period
 

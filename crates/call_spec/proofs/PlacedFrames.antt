@@ -16,7 +16,7 @@ use Rattle.call_spec.specs.Down.{is_coded, samples}
 use Rattle.call_spec.specs.History.{IsCallHistory, call_of_history}
 use Rattle.call_spec.proofs.Ranges.{IsPeriod}
 use Rattle.call_spec.proofs.Reading.{LooksBack, effective-period, setting-period, dtx-period}
-use Rattle.call_spec.proofs.Loads.{IsPlaced, ArePlaced}
+use Rattle.call_spec.proofs.Bridges.Loads.{IsPlaced, ArePlaced}
 use Rattle.call_spec.proofs.Sending.{code, codes}
 
 pcms-earlier : (later ts : List CallPeriod) → All (λ t. length t.pcm ≡ 160) (later ++ ts) → All (λ t. length t.pcm ≡ 160) ts

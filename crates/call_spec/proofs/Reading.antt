@@ -1,4 +1,5 @@
--- For crates above: the call of a history has its yields, effective frames and settings (`yield-period`, `effective-period`), given `LooksBack`.
+-- For crates above: the call of a history has its yields, effective frames and settings (`yield-period`,
+-- `effective-period`), given `LooksBack`.
 -- The call of a history says of each period what the history says.
 use Rattle.std.proofs.Common.{◌≡◌, refl, sym, ap, ◌∙◌, subst, ℕ, ◌*◌, ◌<◌, suc, pos, false, None, List, [], ◌∷◌, ◌++◌, length, map, take, drop, reverse, All}
 use Rattle.std.proofs.Common.{get_or, arith, append_assoc, length-append}

@@ -1,4 +1,5 @@
--- For crates above: one more item of a list adds to its last stretch alone (`stretched-more`), which had the items `before`.
+-- For crates above: one more item of a list adds to its last stretch alone (`stretched-more`), which had the items
+-- `before`.
 use Rattle.std.proofs.Common.{◌≡◌, refl, sym, ap, ◌∙◌, Bool, true, false, if◌then◌else◌, List, [], ◌∷◌, ◌++◌, map, reverse, append_assoc}
 use Rattle.std.specs.List.{flat_map}
 use Rattle.std.proofs.lemmas.Bool.{cond-true, cond-false}

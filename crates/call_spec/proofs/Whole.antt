@@ -1,4 +1,5 @@
--- For crates above: the periods of a whole call are a history (`history-whole`), and the call of that history is the call (`call-whole`).
+-- For crates above: the periods of a whole call are a history (`history-whole`), and the call of that history is the
+-- call (`call-whole`).
 use Rattle.std.proofs.Common.{◌≡◌, refl, sym, ap, ◌∙◌, inl, inr, ℕ, ◌+◌, ◌*◌, ◌≤◌, zero, suc, true, false, ◌||◌, Option, Some, None, List, [], ◌∷◌, length}
 use Rattle.std.proofs.Common.{drop, reverse, All, arith, length-drop, length-take}
 use Rattle.std.specs.Prelude.{is_some}
@@ -14,8 +15,8 @@ use Rattle.call_spec.specs.Call.{Call, Setting, Span, periods, item_at, starts_a
 use Rattle.call_spec.specs.History.{IsCallHistory, settings_of, spans_in_history, call_of_history}
 use Rattle.call_spec.specs.Whole.{AreSpans, IsWhole, call_period, first_periods, periods_of_call}
 use Rattle.call_spec.proofs.FirstPeriods.{ups-first, pcms-first, settings-first}
-use Rattle.call_spec.proofs.Ordered.{head_early, head_late, head_inside, item-none, starts-other, starts-here, starts-none}
-use Rattle.call_spec.proofs.SpansSoFar.{so_far-all, spans-first}
+use Rattle.call_spec.proofs.Bridges.Ordered.{head_early, head_late, head_inside, item-none, starts-other, starts-here, starts-none}
+use Rattle.call_spec.proofs.Bridges.SoFar.{so_far-all, spans-first}
 
 -- before a span starts nothing is handed over
 gap : (low n j : ℕ) (spans : List Span) → AreSpans low n spans → starts_at spans (suc j) ≡ true → item_at spans j ≡ None

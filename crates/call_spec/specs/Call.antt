@@ -19,7 +19,8 @@ pub record Setting : Type 0 where
   pub level : ℤ
   pub mode : DtxMode
 
--- the span of a bridge: its first period, the first one after it, and the items handed over, 260 bits for each of its periods; it may be empty
+-- the span of a bridge: its first period, the first one after it, and the items handed over, 260 bits for each of its
+-- periods; it may be empty
 pub record Span : Type 0 where
   pub from : ℕ
   pub to : ℕ
@@ -50,7 +51,8 @@ setting_at call k = slice_index_or call.settings k (record { level = pos 256; mo
 abbrev pub up_periods : Call → List (List ℕ)
 up_periods call = map (λ k. take 40 (drop (40 * k) call.up)) (each_period call)
 
--- the yield in period k, if any: the search runs over all bits of the Up line, and the yield's last bit is one of the period's
+-- the yield in period k, if any: the search runs over all bits of the Up line, and the yield's last bit is one of the
+-- period's
 abbrev pub yield_at : Call → ℕ → Option Yield
 yield_at call k = yield_in (up_periods call) k
 

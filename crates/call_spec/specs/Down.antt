@@ -1,5 +1,6 @@
--- The Down line of a whole call: handed frames, idle frames and coded frames (GSM 06.10 and GSM 08.60; when each of them is sent is this
--- project's profile). Frames are numbered from 0. Lists have the oldest first, except lists of the frames before a given one.
+-- The Down line of a whole call: handed frames, idle frames and coded frames (GSM 06.10 and GSM 08.60; when each of
+-- them is sent is this project's profile). Frames are numbered from 0. Lists have the oldest first, except lists of the
+-- frames before a given one.
 use Rattle.std.specs.Prelude.{◌≡◌, ◌≤◌, ◌<◌, ℕ, ◌*◌, ◌-◌, ℤ, Bool, true, not, ◌&&◌, if◌then◌else◌, nat_le, nat_lt, Some, None, is_none, unwrap_or, List, []}
 use Rattle.std.specs.Prelude.{◌++◌, map, take, drop, replicate, reverse, filter}
 use Rattle.std.specs.List.{flat_map, zip, list_any, list_all}
@@ -22,8 +23,8 @@ use Rattle.call_spec.specs.Call.{Call, Span, periods, setting_at, is_quiet_at, f
 abbrev pub without_items : Span → Bridge
 without_items span = record { from = span.from; to = span.to }
 
--- The first j frames, the newest first, and frame j after them. It starts where the one before says. It carries the item that a span has
--- for it; without one it has the shift that was asked for last.
+-- The first j frames, the newest first, and frame j after them. It starts where the one before says. It carries the
+-- item that a span has for it; without one it has the shift that was asked for last.
 abbrev pub first_frames : Call → ℕ → List NumberedFrame
 first_frames call j = numbered_frames (map without_items call.spans) (fields call) j
 
@@ -51,8 +52,8 @@ pub record HasItem (call : Call) (span : Span) (j i : ℕ) : Type 0 where
 abbrev pub is_coded : Call → NumberedFrame → Bool
 is_coded call f = is_none f.carries && not (is_quiet_at call (when f.start))
 
--- A coded stretch continues from one coded frame to the next, unless a span, even an empty one, starts after the first one's period and not
--- after the second one's.
+-- A coded stretch continues from one coded frame to the next, unless a span, even an empty one, starts after the first
+-- one's period and not after the second one's.
 abbrev pub coded_goes_on : Call → NumberedFrame → NumberedFrame → Bool
 coded_goes_on call f g =
     is_coded call f && is_coded call g &&

@@ -6,7 +6,8 @@ use Rattle.call_leg.specs.Periods.{CallPeriod, pcm_of}
 use Rattle.call_leg.specs.Down.{down_periods}
 use Rattle.call_spec.specs.Call.{Call, Setting, Span}
 
--- each period has 40 octets of the Up line and 160 of the Pcm line; a bridge starts only while no handed frame waits, and goes on without a gap
+-- each period has 40 octets of the Up line and 160 of the Pcm line; a bridge starts only while no handed frame waits,
+-- and goes on without a gap
 pub record IsCallHistory (ts : List CallPeriod) : Type 0 where
   pub ups : All (λ t. length t.up ≡ 40) ts
   pub pcms : All (λ t. length t.pcm ≡ 160) ts

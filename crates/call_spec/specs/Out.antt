@@ -1,5 +1,5 @@
--- The Out line of a whole call: its uplink, decoded (GSM 06.10; when nothing is decoded is this project's profile). All lists have the
--- oldest first.
+-- The Out line of a whole call: its uplink, decoded (GSM 06.10; when nothing is decoded is this project's profile). All
+-- lists have the oldest first.
 use Rattle.std.specs.Prelude.{ℕ, Bool, not, ◌&&◌, if◌then◌else◌, Option, Some, None, is_some, option_to_list, List, [], ◌∷◌, map}
 use Rattle.std.specs.List.{flat_map}
 use Rattle.trau_alaw.specs.declared.Law.{Law}
@@ -17,7 +17,8 @@ parameters_of Quiet = None
 parameters_of (Speech p) = Some p
 parameters_of (Made p) = Some p
 
--- What is decoded in a period: the parameters of its effective frame, if it is plain (not quiet, and in no span); and whether a span starts at it.
+-- What is decoded in a period: the parameters of its effective frame, if it is plain (not quiet, and in no span); and
+-- whether a span starts at it.
 pub record Decoding : Type 0 where
   pub parameters : Option Fields
   pub starts : Bool
@@ -32,7 +33,8 @@ decoding_at call k = record {
 abbrev pub plain_goes_on : Decoding → Decoding → Bool
 plain_goes_on a b = is_some a.parameters && is_some b.parameters && not b.starts
 
--- the octets, by this law, of a plain stretch, decoded from the reset state over all its parameters; idle octets for a period that isn't plain
+-- the octets, by this law, of a plain stretch, decoded from the reset state over all its parameters; idle octets for a
+-- period that isn't plain
 abbrev pub plain_octets : Law → List Fields → List ℕ
 plain_octets law [] = idle_octets law
 plain_octets law (p ∷ ps) = compressed law (decoded (p ∷ ps))

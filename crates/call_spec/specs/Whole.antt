@@ -3,8 +3,8 @@ use Rattle.std.specs.Prelude.{◌≡◌, ◌≤◌, ◌<◌, ℕ, ◌+◌, ◌*�
 use Rattle.call_leg.specs.Periods.{CallPeriod}
 use Rattle.call_spec.specs.Call.{Call, Span, periods, setting_at, item_at, starts_at}
 
--- Spans in order, the first at period `low` or later. Each starts within the n periods of the call, has an item for each of its periods,
--- and leaves at least one period before the next.
+-- Spans in order, the first at period `low` or later. Each starts within the n periods of the call, has an item for
+-- each of its periods, and leaves at least one period before the next.
 abbrev pub AreSpans : ℕ → ℕ → List Span → Type 0
 AreSpans low n [] = Unit {0}
 AreSpans low n (span ∷ spans) =

@@ -17,8 +17,6 @@ ghost use Rattle.call_leg.specs.Stands.{OfItsCall};
 ghost use Rattle.call_spec.specs.History.{IsCallHistory, call_of_history};
 ghost use Rattle.call_spec.specs.Whole.{IsWhole, periods_of_call};
 
-use rx_handler::laws::{steps_give_effectives, the_newest_is_the_last};
-
 /// The periods of a whole call are a history of that call. One after another, they give its lines.
 pub fn a_call_by_its_periods()
     ensures history { (call : Call) → IsWhole call → IsCallHistory (periods_of_call call) }
@@ -26,7 +24,7 @@ pub fn a_call_by_its_periods()
     ensures out { (call : Call) → IsWhole call → out_line call.who (periods_of_call call) ≡ out call }
     ensures down { (call : Call) → IsWhole call → down_line call.who (periods_of_call call) ≡ down call }
 {
-    lines_of_a_call();
+    crate::laws::lines_of_a_call();
 }
 
 /// The Out line and the Down line of any history of a call, period by period, are those of the whole call with this
@@ -35,8 +33,8 @@ pub fn lines_of_a_call()
     ensures out { (who : Who) (ts : List CallPeriod) → IsCallHistory ts → out_line who ts ≡ out (call_of_history who ts) }
     ensures down { (who : Who) (ts : List CallPeriod) → IsCallHistory ts → down_line who ts ≡ down (call_of_history who ts) }
 {
-    the_newest_is_the_last();
-    steps_give_effectives();
+    rx_handler::laws::the_newest_is_the_last();
+    rx_handler::laws::steps_give_effectives();
 }
 
 /// Each period has its place in the lines of the whole call. What a leg gives in period k, by the periods so far,
@@ -48,7 +46,7 @@ pub fn lines_by_period()
     ensures down { (who : Who) (later past : List CallPeriod) (t : CallPeriod) → IsCallHistory (later ++ t ∷ past) →
         down_now who (t ∷ past) ≡ take 320 (drop (320 * length past) (down (call_of_history who (later ++ t ∷ past)))) }
 {
-    lines_of_a_call();
+    crate::laws::lines_of_a_call();
 }
 
 /// Whatever periods lead to a leg's memory, they are a history of a call. So what the leg's functions say about

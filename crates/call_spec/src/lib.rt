@@ -1,5 +1,7 @@
 //! The outgoing lines of a call, as a definition over whole lines, spans and items.
 //!
+//! Layer: One call.
+//!
 //! `call_leg` defines what a call's leg makes period by period, looking back from the newest period. This crate
 //! defines the same two lines for a recorded call: from its number and law, the whole Up and Pcm lines, the
 //! settings of each period, and the spans of its bridges with the items that were handed over in them, all by
@@ -14,9 +16,4 @@
 //! periods).
 #![tactic(auto)]
 
-mod laws;
-
-pub use laws::{
-    a_call_by_its_periods, a_leg_has_a_history, frames_of_a_call, lines_by_period, lines_of_a_call,
-    yields_of_a_call,
-};
+pub mod laws;

@@ -264,8 +264,8 @@ fn hands_one_each(a: &mut Worked, b: &mut Worked) -> bool {
 
 // What two legs are bridged for.
 enum Bridging {
-    // Six periods from period 4 on. The second leg has octets to skip at the start, so the frames of the first go out one
-    // period late, the last of them after the end.
+    // Six periods from period 4 on. The second leg has octets to skip at the start, so the frames of the first go out
+    // one period late, the last of them after the end.
     SixPeriods,
     // One period, and one more two periods later. Each bridge hands over one frame.
     OnePeriod,

@@ -144,7 +144,8 @@ fn frames_of(line: &mut Line, field: u8) -> [u32; 2] {
     [frames, two_at]
 }
 
-// The longest shift, and the one that takes bits away: the field, the number of frames, and the last period that made two.
+// The longest shift, and the one that takes bits away: the field, the number of frames, and the last period that made
+// two.
 static SAME_SHIFTS: [(u8, u32, u32); 2] = [(39, 51, 0), (63, 101, 79)];
 
 // Whether 100 periods of a new line that each ask for a shift make what its row says.

@@ -12,7 +12,8 @@ use std::sync::atomic::{AtomicU32, Ordering};
 use std::thread;
 use std::thread::Threads;
 
-// The greatest number of turns of a caller: however late the other one begins, it is met before that, or the test runs out of time.
+// The greatest number of turns of a caller: however late the other one begins, it is met before that, or the test runs
+// out of time.
 const TURNS: u32 = u32::MAX;
 
 // Processes posts of call 1 until it is busy for this caller or for another.

@@ -115,8 +115,9 @@ fn kinds_by_the_code_word(rt: HostRuntime) {
     assert_row(&rt, 4, kind_of_octets(&frame) == LOST);
 }
 
-// The code word's bits among the 264 bits of 33 octets, counted from 0: of the pulses that begin at bits 57, 113, 169 and 225 those
-// that class I of GSM 05.03 has, which are the two highest of each, but the highest alone of the last nine.
+// The code word's bits among the 264 bits of 33 octets, counted from 0: of the pulses that begin at bits 57, 113, 169
+// and 225 those that class I of GSM 05.03 has, which are the two highest of each, but the highest alone of the last
+// nine.
 static CODE_WORD: [usize; 95] = [
     57, 58, 60, 61, 63, 64, 66, 67, 69, 70, 72, 73, 75, 76, 78, 79, 81, 82, 84, 85, 87, 88, 90, 91,
     93, 94, 113, 114, 116, 117, 119, 120, 122, 123, 125, 126, 128, 129, 131, 132, 134, 135, 137,

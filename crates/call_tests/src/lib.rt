@@ -1,5 +1,7 @@
 //! Tests of the crates that process one call or two bridged ones, of a live farm, and of the base station's end.
 //!
+//! Layer: Tests.
+//!
 //! They have a crate of their own, since a crate with tests is proved a second time together with them. They call
 //! public functions only.
 #![tactic(auto)]

@@ -42,8 +42,8 @@ fn first_wrong(burst: u32) -> u32 {
     31
 }
 
-// A first pause, a burst and a pause. A pause has a hangover of four if it begins 24 frames or more after the last SID. Row 2307
-// has a burst of 23 and a pause of 7.
+// A first pause, a burst and a pause. A pause has a hangover of four if it begins 24 frames or more after the last SID.
+// Row 2307 has a burst of 23 and a pause of 7.
 #[test]
 fn pauses_between_bursts(rt: HostRuntime) {
     for burst in 1..31u32 {

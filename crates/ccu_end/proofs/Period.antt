@@ -105,7 +105,8 @@ module _ (ccu ccu' : CcuMemory) (u u' d d' : LineState) (k : DeskState) (block :
     };
   }
 
--- a whole period, in which these frames were found: it was read, then its answer was written, and then its frames were told
+-- a whole period, in which these frames were found: it was read, then its answer was written, and then its frames were
+-- told
 module _ (ccu ccu' : CcuMemory) (u u1 u2 d d1 d2 : LineState) (k : DeskState) (block : List ℕ) (found : List FoundFrame)
     (read : ReadsBlock u u1 filled.Whole block) (up_same : u2 ≡ u1) (down_same : d1 ≡ d) (fed : CcuMemory) (same : ccu' ≡ fed)
     (takes_fed : Takes ccu fed block found) where

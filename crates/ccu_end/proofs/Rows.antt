@@ -47,8 +47,8 @@ five_kinds : map (λ w. w.kind) (reverse (all_asked 0 five)) ≡ kinds.Idle ∷ 
 unfolding all_asked asked
 five_kinds = refl
 
--- frames that stay 320 bits apart: place 100 is wanted behind 320, 12 octets later, and asked for again where the eighth
--- frame since is found
+-- frames that stay 320 bits apart: place 100 is wanted behind 320, 12 octets later, and asked for again where the
+-- eighth frame since is found
 abbrev in_place : ℕ → List (List FoundFrame)
 in_place zero = []
 in_place (suc k) = (frame_of (320 * k + 320) ∷ []) ∷ in_place k

@@ -1,5 +1,6 @@
 -- What a base station sends up in each period: the speech that it heard, and the time alignment that it asks for (this
--- project's profile, modelled on GSM 08.60). A history has the newest period first; the frames of one period are in order.
+-- project's profile, modelled on GSM 08.60). A history has the newest period first; the frames of one period are in
+-- order.
 use Rattle.std.specs.Prelude.{ℕ, ◌+◌, ◌-◌, ◌/◌, ◌%◌, Bool, true, false, ◌&&◌, if◌then◌else◌, ◌==◌, nat_le, nat_lt, List, [], ◌∷◌, ◌++◌, length, replicate}
 use Rattle.std.specs.Prelude.{Option, Some, None}
 use Rattle.trau_frame.specs.declared.frames.DownFrame.{DownFrame}
@@ -26,8 +27,8 @@ place_in (Some f) = f.place
 abbrev pub offset_of : ℕ → ℕ → ℕ
 offset_of want p = (want + 320 - p % 320) % 320
 
--- the alignment field that asks for frames `offset` bits later: a field n up to 39 is a delay by n steps of 500 us, 8 bits each,
--- and 62 one of 250 us, 4 bits (GSM 08.60)
+-- the alignment field that asks for frames `offset` bits later: a field n up to 39 is a delay by n steps of 500 us, 8
+-- bits each, and 62 one of 250 us, 4 bits (GSM 08.60)
 abbrev pub field_for : ℕ → ℕ
 field_for offset =
     if nat_le 8 offset then offset / 8
@@ -48,12 +49,13 @@ in_step p (f ∷ fs) = f.place == p + 320 && in_step f.place fs
 abbrev pub frames_of_wait : ℕ
 frames_of_wait = 8
 
--- A request of the period in which `sent` were found waits as long as all frames found since are in step and fewer than these.
+-- A request of the period in which `sent` were found waits as long as all frames found since are in step and fewer than
+-- these.
 abbrev pub still_waits : List FoundFrame → List FoundFrame → Bool
 still_waits sent since = nat_lt (length since) frames_of_wait && in_step (place_in (last_of sent)) since
 
--- How many frames were found since the newest request, if it still waits; None if it doesn't, or if there was none. `since`
--- are the frames found after these periods.
+-- How many frames were found since the newest request, if it still waits; None if it doesn't, or if there was none.
+-- `since` are the frames found after these periods.
 unfoldable pub waiting : List FoundFrame → List Answered → Option ℕ
 waiting since [] = None
 waiting since (a ∷ past) =
@@ -66,8 +68,8 @@ abbrev pub field_where : Option ℕ → ℕ → ℕ
 field_where None field = field
 field_where (Some count) field = 0
 
--- the field of the period that follows the past and in which these frames were found: 0 without a frame, and while a request
--- waits
+-- the field of the period that follows the past and in which these frames were found: 0 without a frame, and while a
+-- request waits
 abbrev pub field_after : ℕ → List FoundFrame → List Answered → ℕ
 field_after want [] past = 0
 field_after want (f ∷ fs) past = field_where (waiting (f ∷ fs) past) (field_for (offset_of want (place_in (last_of (f ∷ fs)))))
@@ -94,8 +96,8 @@ abbrev pub up_words : Option (List ℕ) → ℕ → UpWords
 up_words None field = record { kind = kinds.Idle; class = classes.Unusable; taf = false; dtxd = true; align = field; d = replicate 260 1 }
 up_words (Some d) field = record { kind = kinds.Speech; class = classes.Good; taf = false; dtxd = true; align = field; d = d }
 
--- what is sent up in the newest of the periods in which these frames were found: the speech of the last frame found in it, or
--- an idle frame, with its field; before the first period an idle frame with field 0
+-- what is sent up in the newest of the periods in which these frames were found: the speech of the last frame found in
+-- it, or an idle frame, with its field; before the first period an idle frame with field 0
 unfoldable pub asked : ℕ → List (List FoundFrame) → UpWords
 asked want [] = up_words None 0
 asked want (fs ∷ heard) = up_words (speech_in (last_of fs)) (field_after want fs (answered want heard))

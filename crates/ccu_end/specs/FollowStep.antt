@@ -1,4 +1,5 @@
--- One period of `follow`, after any past that leads to the station's memory (`Stands`). A past has the newest period first.
+-- One period of `follow`, after any past that leads to the station's memory (`Stands`). A past has the newest period
+-- first.
 use Rattle.std.specs.Prelude.{◌≡◌, ℕ, ◌+◌, ◌≤◌, ◌<◌, List, [], ◌∷◌, length, take}
 use Rattle.std.specs.Io.KnownBytes.{IsAtEnd}
 use Rattle.trau_io.specs.Lines.{LineState, Rose}

@@ -35,8 +35,8 @@ pub record Moves (up up' down down' : LineState) (desk desk' : DeskState) (given
   pub gains : Gains down down' sent
   pub hears : DeskHears desk desk' told
 
--- The line ended after these periods and `left` more octets, or 4,294,967,295 periods were read. All of them are answered, and
--- all frames are listed.
+-- The line ended after these periods and `left` more octets, or 4,294,967,295 periods were read. All of them are
+-- answered, and all frames are listed.
 pub record EndsLine (up up' down down' : LineState) (desk desk' : DeskState) (want : ℕ) (periods : List (List ℕ)) (heard : List (List FoundFrame))
     (last sent told : List ℕ) (frames left : ℕ) : Type 0 where
   pub at_end : IsAtEnd up'.to_come ⊎ ((length periods ≡ 2 ^ 32 - 1) × (last ≡ []))
@@ -49,8 +49,8 @@ pub record EndsLine (up up' down down' : LineState) (desk desk' : DeskState) (wa
   pub down_same : down'.faults ≡ down.faults
   pub desk_same : desk'.write_faults ≡ desk.write_faults
 
--- The incoming line failed inside a period. All periods before it, fewer than 4,294,967,295, are answered, and their frames are
--- listed.
+-- The incoming line failed inside a period. All periods before it, fewer than 4,294,967,295, are answered, and their
+-- frames are listed.
 pub record FollowFailsToRead (up up' down down' : LineState) (desk desk' : DeskState) (want : ℕ) (periods : List (List ℕ)) (heard : List (List FoundFrame))
     (last sent told : List ℕ) : Type 0 where
   pub room : length periods < 2 ^ 32 - 1
@@ -61,8 +61,8 @@ pub record FollowFailsToRead (up up' down down' : LineState) (desk desk' : DeskS
   pub down_same : down'.faults ≡ down.faults
   pub desk_same : desk'.write_faults ≡ desk.write_faults
 
--- The outgoing line failed inside the answer of the last period: nothing was read after that period, the line gained all earlier
--- answers and a proper prefix of this one, and only the frames of the earlier periods are listed.
+-- The outgoing line failed inside the answer of the last period: nothing was read after that period, the line gained
+-- all earlier answers and a proper prefix of this one, and only the frames of the earlier periods are listed.
 pub record FollowFailsToWrite (up up' down down' : LineState) (desk desk' : DeskState) (want : ℕ) (heard : List (List FoundFrame))
     (last sent told : List ℕ) : Type 0 where
   pub nothing_more : last ≡ []
@@ -77,8 +77,8 @@ pub record FollowFailsToWrite (up up' down down' : LineState) (desk desk' : Desk
   pub rose : Rose down.faults down'.faults
   pub desk_same : desk'.write_faults ≡ desk.write_faults
 
--- The desk failed inside the lines of text of the last period: nothing was read after that period, all periods are answered, and
--- the desk gained all earlier lines and a proper prefix of the period's.
+-- The desk failed inside the lines of text of the last period: nothing was read after that period, all periods are
+-- answered, and the desk gained all earlier lines and a proper prefix of the period's.
 pub record FailsToTell (up up' down down' : LineState) (desk desk' : DeskState) (want : ℕ) (heard : List (List FoundFrame))
     (last sent told : List ℕ) : Type 0 where
   pub nothing_more : last ≡ []
@@ -102,8 +102,8 @@ EndsAs up up' down down' desk desk' want periods heard last sent told ReadFailed
 EndsAs up up' down down' desk desk' want periods heard last sent told WriteFailed = FollowFailsToWrite up up' down down' desk desk' want heard last sent told
 EndsAs up up' down down' desk desk' want periods heard last sent told DeskFailed = FailsToTell up up' down down' desk desk' want heard last sent told
 
--- A whole downlink. At most 4,294,967,295 periods were read: whole periods, in which these frames were found, and then maybe a
--- part of one.
+-- A whole downlink. At most 4,294,967,295 periods were read: whole periods, in which these frames were found, and then
+-- maybe a part of one.
 pub record Follows (up up' down down' : LineState) (desk desk' : DeskState) (want : ℕ) (end : FollowEnd) : Type 0 where
   pub periods : List (List ℕ)
   pub heard : List (List FoundFrame)

@@ -26,7 +26,8 @@ is_found_at bits p = nat_le (p + 316) (length bits) && is_match (bit_in bits) p
 abbrev pub NoneFound : List ℕ → ℕ → ℕ → Type 0
 NoneFound bits low high = (q : ℕ) → low ≤ q → q < high → is_found_at bits q ≡ false
 
--- These are all frames found from `low` on: each at the lowest place, and the next one is looked for from 316 bits after it.
+-- These are all frames found from `low` on: each at the lowest place, and the next one is looked for from 316 bits
+-- after it.
 abbrev pub FoundFrom : List ℕ → ℕ → List FoundFrame → Type 0
 FoundFrom bits low [] = (q : ℕ) → low ≤ q → is_found_at bits q ≡ false
 FoundFrom bits low (f ∷ fs) =
@@ -75,7 +76,8 @@ abbrev pub AreShifted : List Shifted → Type 0
 AreShifted [] = Unit {0}
 AreShifted (x ∷ xs) = IsShift x.0 × HasLength x.1 × AreShifted xs
 
--- the frames at their places: the first at p, each further one 320 bits and two for each octet of the shift after the one before
+-- the frames at their places: the first at p, each further one 320 bits and two for each octet of the shift after the
+-- one before
 abbrev pub found_from : ℕ → List Shifted → List FoundFrame
 found_from p [] = []
 found_from p (x ∷ xs) = record { place = p; frame = Some x.1 } ∷ found_from (p + 2 * octets_to_next x.0) xs

@@ -1,5 +1,6 @@
--- The frames that a base station finds in each period of a downlink (this project's profile). A period has 40 octets. A history
--- has the newest period first; the frames of one period are in order. The bits of a history are those of an uplink's search.
+-- The frames that a base station finds in each period of a downlink (this project's profile). A period has 40 octets. A
+-- history has the newest period first; the frames of one period are in order. The bits of a history are those of an
+-- uplink's search.
 use Rattle.std.specs.Prelude.{◌≡◌, ℕ, ◌+◌, ◌*◌, ◌≤◌, ◌<◌, List, [], ◌∷◌, ◌++◌, length, All, Option, option_to_list}
 pub use Rattle.frame_sync.specs.Periods.{ArePeriods}
 unfoldable pub use Rattle.frame_sync.specs.Periods.{line_bits}

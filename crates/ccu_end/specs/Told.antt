@@ -1,5 +1,5 @@
--- What the command `follow` prints and sends up for the frames that were heard (this project's profile). `heard` has the newest
--- period first.
+-- What the command `follow` prints and sends up for the frames that were heard (this project's profile). `heard` has
+-- the newest period first.
 use Rattle.std.specs.Prelude.{ℕ, List, [], ◌∷◌, ◌++◌, codes, decimal, Option, Some, None}
 use Rattle.std.specs.List.{flat_map}
 use Rattle.trau_bits.specs.Bits.{octets_of}

@@ -1,5 +1,5 @@
--- The command `follow`: its last line of text, its end and the cause of that, and its result if nothing fails (this project's
--- profile).
+-- The command `follow`: its last line of text, its end and the cause of that, and its result if nothing fails (this
+-- project's profile).
 use Rattle.std.specs.Prelude.{◌≡◌, ◌⊎◌, ℕ, ◌*◌, ◌-◌, ◌^◌, ◌<◌, ◌≤◌, List, [], ◌++◌, length, reverse, codes, decimal, Some, Ok, Err}
 use Rattle.std.specs.List.{concat}
 use Rattle.trau_io.specs.declared.line.Side.{Side}
@@ -18,7 +18,8 @@ use Rattle.ccu_end.specs.Heard.{ArePeriods, AreHeard, all_of}
 use Rattle.ccu_end.specs.Told.{listed, sent_up}
 use Rattle.ccu_end.specs.Follows.{AllButTwo, Follows}
 
--- the last line of text: how many frames were found and how many octets are left, or which line failed; none if the desk failed
+-- the last line of text: how many frames were found and how many octets are left, or which line failed; none if the
+-- desk failed
 abbrev pub last_text : ℕ → FollowEnd → List ℕ
 last_text call (Done frames left) = codes "follow frames " ++ (decimal frames ++ (codes " left " ++ (decimal left ++ codes "\n")))
 last_text call ReadFailed = failed_text call Up
@@ -32,7 +33,8 @@ IsEndOf call ReadFailed result = IsFaultOf call Up result
 IsEndOf call WriteFailed result = IsFaultOf call Down result
 IsEndOf call DeskFailed result = result ≡ tool.DeskFault
 
--- the last line was written, and the tool ended as the followed downlink; or the desk failed after a proper prefix of the line
+-- the last line was written, and the tool ended as the followed downlink; or the desk failed after a proper prefix of
+-- the line
 abbrev pub TellsLast : ℕ → FollowEnd → DeskState → DeskState → ToolEnd → Type 0
 TellsLast call end desk desk' result =
     (IsEndOf call end result × Tells desk desk' (Ok tt) (last_text call end))
@@ -46,8 +48,8 @@ pub record FollowRun (before now : ℕ → Side → LineState) (desk desk' : Des
   pub others : AllButTwo before now call Up Down
   pub tells : TellsLast call end middle desk' result
 
--- The status is 0, 4 or 6. With 4 a fault of writing to the desk was counted, with 6 a fault of one of the two lines. If the
--- desk's count grew, the status is 4. If a line's count grew, it is 6 or 4.
+-- The status is 0, 4 or 6. With 4 a fault of writing to the desk was counted, with 6 a fault of one of the two lines.
+-- If the desk's count grew, the status is 4. If a line's count grew, it is 6 or 4.
 pub record HasCauses (up up' down down' : LineState) (desk desk' : DeskState) (status : ℕ) : Type 0 where
   pub known : (status ≡ 0) ⊎ (status ≡ 4) ⊎ (status ≡ 6)
   pub desk_failed : status ≡ 4 → Rose desk.write_faults desk'.write_faults
@@ -65,8 +67,9 @@ pub record AreCalm (up up' down down' : LineState) (desk desk' : DeskState) : Ty
   pub down_calm : IsCalm down.faults down'.faults
   pub desk_calm : IsCalm desk.write_faults desk'.write_faults
 
--- The result of the command if the incoming line had `octets` to come, and the outgoing line held `held` and the desk `text`: the
--- answer of each whole period, a line of text for each frame found in them, and the last line. `rest` is not read.
+-- The result of the command if the incoming line had `octets` to come, and the outgoing line held `held` and the desk
+-- `text`: the answer of each whole period, a line of text for each frame found in them, and the last line. `rest` is
+-- not read.
 pub record LeavesFollowed (call want : ℕ) (up' down' : LineState) (desk' : DeskState) (octets held text : List ℕ) (status : ℕ) : Type 0 where
   pub periods : List (List ℕ)
   pub heard : List (List FoundFrame)

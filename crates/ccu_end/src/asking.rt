@@ -15,8 +15,8 @@ use trau_frame::{Class, DownFrame, Kind, UpFrame};
 // A request is over with this frame after it, counted from 1 (this project's profile).
 const FRAMES_OF_WAIT: u8 = 8;
 
-// A waiting request (as the number of frames found since) when the next frame is found, at `place`. It was looked for from
-// `low` on, the place after the 316 bits of the frame before.
+// A waiting request (as the number of frames found since) when the next frame is found, at `place`. It was looked for
+// from `low` on, the place after the 316 bits of the frame before.
 fn wait_next(waiting: Option<u8>, low: u64, place: u64) -> Option<u8>
     requires { low < 2 ^ 62 }
     ensures { result ≡ wait_next waiting low place }

@@ -24,8 +24,8 @@ fn frame_from(window: &[u8; 640], o: usize) -> [u8; 320]
     bits
 }
 
-/// The downlink frame at index `o` of the window; None if C1 to C5 are no pattern of one. C16 is its SP; its data bits have the
-/// same places as in an uplink frame.
+/// The downlink frame at index `o` of the window; None if C1 to C5 are no pattern of one. C16 is its SP; its data bits
+/// have the same places as in an uplink frame.
 pub(crate) fn read_down(window: &[u8; 640], o: usize) -> Option<DownFrame>
     requires within { o ≤ 324 }
     requires bits { AreBits window.now }

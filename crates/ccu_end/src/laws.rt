@@ -15,15 +15,16 @@ pub fn written_downlink_is_read()
     ensures { (f : DownFrame) → HasLength f → down_frame_in (down_bits f) ≡ Some f }
 {}
 
-/// In the first n bits of a line of frames with shifts, exactly the frames whose first 316 bits are there are found, each at
-/// its place. The first is at bit 320; each further one follows by 320 bits and twice the shift (in octets) of the one before.
+/// In the first n bits of a line of frames with shifts, exactly the frames whose first 316 bits are there are found,
+/// each at its place. The first is at bit 320; each further one follows by 320 bits and twice the shift (in octets) of
+/// the one before.
 pub fn shifted_frames_are_found()
     ensures { (xs : List Shifted) (n : ℕ) → AreShifted xs →
         Found (take n (shifted_line xs)) (all_within n (found_from 320 xs)) }
 {}
 
-/// In the first n bits of a downlink that a framer makes, exactly the made frames whose first 316 bits are there are found, each
-/// at its place and with what was sent in it.
+/// In the first n bits of a downlink that a framer makes, exactly the made frames whose first 316 bits are there are
+/// found, each at its place and with what was sent in it.
 pub fn made_frames_are_found()
     ensures { (frame : List PcmFrame → DownFrame) (ps : List PcmPeriod) (n : ℕ) →
         HaveLength frame (made_frames ps) →
@@ -36,8 +37,8 @@ pub fn one_list()
     ensures { (bits : List ℕ) (fs gs : List FoundFrame) → Found bits fs → Found bits gs → fs ≡ gs }
 {}
 
-/// The first frame is at bit 320; each further one follows by 320 bits and twice the shift (in octets) of the one before. So
-/// each shift moves the next place by exactly that shift.
+/// The first frame is at bit 320; each further one follows by 320 bits and twice the shift (in octets) of the one
+/// before. So each shift moves the next place by exactly that shift.
 pub fn places_by_shifts()
     ensures { (frame : List PcmFrame → DownFrame) (ps : List PcmPeriod) →
         map (λ f. f.place) (as_made frame (made_frames ps)) ≡
@@ -52,8 +53,8 @@ pub fn each_period_has_its_frames()
         AreHeard past heard → AreHeard past others → heard ≡ others }
 {}
 
-/// If periods hold the first n bits of a downlink that a framer makes, the frames heard in them all are the made ones whose
-/// first 316 bits are there.
+/// If periods hold the first n bits of a downlink that a framer makes, the frames heard in them all are the made ones
+/// whose first 316 bits are there.
 pub fn heard_frames_are_those_made()
     ensures { (frame : List PcmFrame → DownFrame) (ps : List PcmPeriod) (n : ℕ)
         (past : List (List ℕ)) (heard : List (List FoundFrame)) →

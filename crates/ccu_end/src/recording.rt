@@ -22,8 +22,8 @@ use trau_io::{Desk, Failed, Filled, Line, Side, Trunk, read_block, tell, write_a
 /// How a followed downlink ended.
 #[derive(Clone, Copy)]
 pub(crate) enum FollowEnd {
-    /// At the end of the line, or after 4,294,967,295 periods. The numbers of frames that were found, and of octets after
-    /// the last whole period, fewer than 40.
+    /// At the end of the line, or after 4,294,967,295 periods. The numbers of frames that were found, and of octets
+    /// after the last whole period, fewer than 40.
     Done(u64, u32),
     /// The Up line failed, with the downlink.
     ReadFailed,
@@ -161,13 +161,14 @@ fn tell_last<D: Desk>(call: u32, end: FollowEnd, desk: &mut D) -> ToolEnd
 
 /// Follows a call's Up line as a recorded downlink, in periods of 40 octets.
 ///
-/// For each period it writes the answer to the call's Down line: an uplink frame of 40 octets, which asks for the alignment
-/// to places that are `want` modulo 320 (0 to 316, a multiple of 4). Then it prints a line of text for each frame found in
-/// the period: `PLACE WORD`. PLACE is in bits; WORD is `speech`, `idle` or `other`. If an answer can't be written, the frames
-/// of its period aren't listed.
+/// For each period it writes the answer to the call's Down line: an uplink frame of 40 octets, which asks for the
+/// alignment to places that are `want` modulo 320 (0 to 316, a multiple of 4). Then it prints a line of text for each
+/// frame found in the period: `PLACE WORD`. PLACE is in bits; WORD is `speech`, `idle` or `other`. If an answer can't
+/// be written, the frames of its period aren't listed.
 ///
-/// At the end it prints `follow frames N left R`, N being the number of frames and R the octets after the last whole period,
-/// or `line C up failed` or `line C down failed`. It doesn't allocate, and never ends with `Refused` or `Memory`.
+/// At the end it prints `follow frames N left R`, N being the number of frames and R the octets after the last whole
+/// period, or `line C up failed` or `line C down failed`. It doesn't allocate, and never ends with `Refused` or
+/// `Memory`.
 pub fn follow<T: Trunk, D: Desk>(call: u32, want: u16, trunk: &mut T, desk: &mut D) -> ToolEnd
     requires number { IsCallNumber call }
     requires high { want ≤ 316 }

@@ -52,8 +52,8 @@ impl Model for Ccu {
     ghost invariant = { λ s. (s.low ≤ 320 * s.periods) × AreBits s.last };
 }
 
-// The first frame from place `low` on whose bit 315 is in the period that begins at place `base`. `low` moves past its first
-// 316 bits. The window has the bits of the period before and of this one.
+// The first frame from place `low` on whose bit 315 is in the period that begins at place `base`. `low` moves past its
+// first 316 bits. The window has the bits of the period before and of this one.
 fn take_next(window: &[u8; 640], base: u64, low: &mut u64) -> Option<Found>
     requires small { base < 2 ^ 60 }
     requires near { low.old ≤ base + 320 }
@@ -103,8 +103,8 @@ impl Ccu {
     ghost use Rattle.ccu_end.specs.Asked.{asked};
     ghost use Rattle.ccu_end.specs.Step.{waiting_after, answer_after};
 
-    /// The station's end before the first period. It wants frames at places that are `want` modulo 320: a multiple of 4, at
-    /// most 316.
+    /// The station's end before the first period. It wants frames at places that are `want` modulo 320: a multiple of
+    /// 4, at most 316.
     pub fn new(want: u16) -> Ccu
         requires high { want ≤ 316 }
         requires fours { want % 4 ≡ 0 }
@@ -121,7 +121,8 @@ impl Ccu {
         }
     }
 
-    /// Takes the 40 octets of the next period, and returns the frames found in it. A line has at most 4,294,967,295 periods.
+    /// Takes the 40 octets of the next period, and returns the frames found in it. A line has at most 4,294,967,295
+    /// periods.
     pub fn feed(&mut self, octets: &[u8; 40]) -> Heard
         requires { self.old.periods < 4294967295 }
 
@@ -159,8 +160,8 @@ impl Ccu {
         heard
     }
 
-    /// Overwrites the bits with the uplink frame of the newest period: the speech of the last frame found in it, or else an
-    /// idle frame, with the alignment that is asked for.
+    /// Overwrites the bits with the uplink frame of the newest period: the speech of the last frame found in it, or
+    /// else an idle frame, with the alignment that is asked for.
     pub fn answer(&mut self, bits: &mut [u8; 320])
         ensures same { self.new ≡ self.old }
         ensures bits { bits.new ≡ bits_saying self.old.answer }

@@ -1,5 +1,7 @@
 //! Tests of the codec's crates (`fr_*`), its arithmetic and its parameters, and of A-law and mu-law.
 //!
+//! Layer: Tests.
+//!
 //! They are in a crate of their own, because a crate with tests is proved a second time with them. They call public
 //! functions only.
 #![tactic(auto)]

@@ -1,4 +1,5 @@
--- For crates above: a text spells at most one number (`one_number`), and decimal digits are a model of numerals (`own`).
+-- For crates above: a text spells at most one number (`one_number`), and decimal digits are a model of numerals
+-- (`own`).
 -- What a caller knows of a spelled number.
 use Rattle.std.proofs.Common.{ℕ, ◌^◌, ◌<◌, ◌≤◌, List, refl, sym, ◌∙◌, subst, arith}
 use Rattle.std.specs.Prelude.{decimal}

@@ -1,5 +1,7 @@
 //! Decimal numbers in the words of a command line, in the lines of orders and in those of a mark.
 //!
+//! Layer: Numbers, bits and lines.
+//!
 //! The functions take a text or octets and a range, and give the number that they spell, if they spell one.
 //! `command_words`, `trau_orders` and `farm_checkpoint` accept no other spelling. The latter two also split their lines
 //! here, at an octet.

@@ -1,4 +1,5 @@
--- For crates above: what a framer holds after it put, framed or took a period (`put-holds`, `frame-holds`, `take-holds`).
+-- For crates above: what a framer holds after it put, framed or took a period (`put-holds`, `frame-holds`,
+-- `take-holds`).
 use Rattle.std.proofs.Common.{◌≡◌, sym, ap, ◌∙◌, ℕ, ◌+◌, ◌-◌, ◌≤◌, ℤ, List, ◌++◌, length, drop, arith, length-append, length-drop}
 use Rattle.std.proofs.lemmas.List.{drop-drop, drop-append-le}
 use Rattle.down_framer.specs.Made.{octets_to_next, frame_on_line}

@@ -1,4 +1,5 @@
--- For crates above: numbered frames start where made ones do (`numbered_start-of`), and are as many from a period on (`count_from-of`).
+-- For crates above: numbered frames start where made ones do (`numbered_start-of`), and are as many from a period on
+-- (`count_from-of`).
 -- What a frame carries, by the bridges of all periods.
 use Rattle.std.proofs.Common.{◌≡◌, refl, sym, ap, ◌∙◌, subst, ℕ, ◌+◌, ◌-◌, ◌≤◌, ◌<◌, suc, Bool, true, false, ◌&&◌, if◌then◌else◌, nat_le, nat_lt, Option, Some}
 use Rattle.std.proofs.Common.{None, List, [], ◌∷◌, ◌++◌, length, map, filter, arith, inl, inr, length-append}

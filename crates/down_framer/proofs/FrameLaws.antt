@@ -1,4 +1,5 @@
--- For crates above: exactly the frames whose octets have come are made (`in_time`), and bridges with a period between are a history (`apart`).
+-- For crates above: exactly the frames whose octets have come are made (`in_time`), and bridges with a period between
+-- are a history (`apart`).
 use Rattle.std.proofs.Common.{◌≡◌, refl, ap, ◌∙◌, ℕ, ◌+◌, ◌-◌, ◌*◌, ◌≤◌, ◌<◌, false, if◌then◌else◌, nat_le, Option, Some, None, List, [], ◌∷◌, ◌++◌, length}
 use Rattle.std.proofs.Common.{map, All, arith}
 use Rattle.std.proofs.lemmas.Bool.{cond_both, leb-true}

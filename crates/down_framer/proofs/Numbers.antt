@@ -1,4 +1,5 @@
--- For crates above: the frames made in the periods of a history are the first ones by number (`made-numbered`, `frame_with`).
+-- For crates above: the frames made in the periods of a history are the first ones by number (`made-numbered`,
+-- `frame_with`).
 use Rattle.std.proofs.Common.{◌≡◌, refl, sym, ap, ◌∙◌, subst, ℕ, ◌+◌, ◌*◌, ◌≤◌, ◌<◌, pos, true, nat_le, Option, Some, None, List, [], ◌∷◌, ◌++◌, length, map}
 use Rattle.std.proofs.Common.{take, arith, inl, inr}
 use Rattle.std.proofs.lemmas.Bool.{cases_lt, leb-true, cases_Bool, cond_both}

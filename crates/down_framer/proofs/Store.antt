@@ -1,4 +1,5 @@
--- For crates above: how many bits a downlink has, and that it is made further than the periods that were sent (`made-far`).
+-- For crates above: how many bits a downlink has, and that it is made further than the periods that were sent
+-- (`made-far`).
 use Rattle.std.proofs.Common.{◌≡◌, refl, ◌∙◌, ℕ, ◌+◌, ◌*◌, ◌<◌, ℤ, pos, negsuc, nat_le, List, [], ◌∷◌, length, replicate, arith, length-append, length-take}
 use Rattle.std.proofs.lemmas.List.{length-replicate}
 use Rattle.std.proofs.lemmas.Bool.{cond_both}

@@ -1,4 +1,5 @@
--- For crates above: after each period all frames are made that can be, with permitted shifts (`AreMade-made_frames`, `AreOnTime`).
+-- For crates above: after each period all frames are made that can be, with permitted shifts (`AreMade-made_frames`,
+-- `AreOnTime`).
 use Rattle.std.proofs.Common.{◌≡◌, refl, ℕ, ◌+◌, ◌*◌, ◌/◌, ◌≤◌, ◌<◌, ℤ, pos, negsuc, nat_le, Option, Some, None, List, [], ◌∷◌, length, arith, ◌⊎◌, inl, inr}
 use Rattle.std.proofs.lemmas.Bool.{leb-true, leb-false, cond_both}
 use Rattle.time_align.specs.Shift.{greatest_shift, latest_shift, IsShift}

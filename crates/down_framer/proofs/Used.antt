@@ -1,4 +1,5 @@
--- For crates above: each bridge but the latest is used up: since its start as many frames were made as it has periods (`AreUsed`).
+-- For crates above: each bridge but the latest is used up: since its start as many frames were made as it has periods
+-- (`AreUsed`).
 use Rattle.std.proofs.Common.{◌≡◌, refl, sym, ◌∙◌, subst, ℕ, ◌+◌, ◌-◌, ◌*◌, ◌≤◌, Bool, true, false, if◌then◌else◌, nat_le, Option, Some, None, List, [], ◌∷◌}
 use Rattle.std.proofs.Common.{length, filter, arith, inl, inr}
 use Rattle.std.proofs.lemmas.Bool.{cases_lt, lt-ltb, cases_Bool, cond_both, cond-true, cond-false}

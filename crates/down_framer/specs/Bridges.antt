@@ -13,7 +13,8 @@ IsHistory [] = Unit {0}
 IsHistory (p ∷ past) =
     IsHistory past × (p.starts ≡ true → handed_due past (made_frames past) ≡ None) × (p.bridged ≡ true → (p.starts || in_bridge past) ≡ true)
 
--- a period lies between any two bridges: a bridge starts only after a period outside of bridges, and goes on without a gap
+-- a period lies between any two bridges: a bridge starts only after a period outside of bridges, and goes on without a
+-- gap
 abbrev pub LeavePeriodsBetween : {A : Type 0} → List (Period A) → Type 0
 LeavePeriodsBetween [] = Unit {0}
 LeavePeriodsBetween (p ∷ past) =

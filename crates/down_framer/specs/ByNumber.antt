@@ -1,5 +1,5 @@
--- The made frames by their numbers, from a list of bridges and the fields of all periods. Periods and bridges are counted from the call's opening.
--- Lists of frames have the newest first.
+-- The made frames by their numbers, from a list of bridges and the fields of all periods. Periods and bridges are
+-- counted from the call's opening. Lists of frames have the newest first.
 use Rattle.std.specs.Prelude.{◌≡◌, ◌≤◌, ◌<◌, ℕ, ◌+◌, ◌-◌, ◌*◌, ◌/◌, zero, suc, ℤ, pos, if◌then◌else◌, ◌&&◌, nat_le, nat_lt, Option, Some, None, is_none, List}
 use Rattle.std.specs.Prelude.{[], ◌∷◌, ◌++◌, length, map, take, drop, replicate, reverse, filter, find, All}
 use Rattle.time_align.specs.Shift.{latest_shift}
@@ -24,16 +24,17 @@ when start = (start + 159) / 160
 abbrev pub count_from : ℕ → List NumberedFrame → ℕ
 count_from s fs = length (filter (λ f. nat_le s (when f.start)) fs)
 
--- What a frame made in period w carries. For a bridge from s to e, let i be the number of earlier frames made in period s or later. If w is s or
--- later and i is below e - s, the frame carries the one handed over in period s + i.
+-- What a frame made in period w carries. For a bridge from s to e, let i be the number of earlier frames made in period
+-- s or later. If w is s or later and i is below e - s, the frame carries the one handed over in period s + i.
 abbrev pub carried_item : List Bridge → ℕ → List NumberedFrame → Option ℕ
 carried_item [] w fs = None
 carried_item (b ∷ bs) w fs =
     if nat_le b.from w && nat_lt (count_from b.from fs) (b.to - b.from) then Some (b.from + count_from b.from fs)
     else carried_item bs w fs
 
--- the fields that count in period w, the newest first: those of the periods up to w and after the period of the last frame that carries nothing, or
--- of all periods up to w if there is no such frame; `fields` has those of all periods, the oldest first
+-- the fields that count in period w, the newest first: those of the periods up to w and after the period of the last
+-- frame that carries nothing, or of all periods up to w if there is no such frame; `fields` has those of all periods,
+-- the oldest first
 abbrev pub fields_to : List (Option ℕ) → ℕ → List NumberedFrame → List (Option ℕ)
 fields_to fields w fs = elim (find (λ f. is_none f.carries) fs) [
   | None ↦ reverse (take (w + 1) fields)
@@ -61,7 +62,8 @@ abbrev pub numbered_frames : List Bridge → List (Option ℕ) → ℕ → List 
 numbered_frames bridges fields zero = []
 numbered_frames bridges fields (suc j) = let before = numbered_frames bridges fields j in numbered_next bridges fields before ∷ before
 
--- the downlink as one list: 320 ones, and then each frame with what its shift adds or leaves out; `bits j` gives the bits of frame j
+-- the downlink as one list: 320 ones, and then each frame with what its shift adds or leaves out; `bits j` gives the
+-- bits of frame j
 abbrev pub numbered_line : (ℕ → List ℕ) → List NumberedFrame → List ℕ
 numbered_line bits [] = replicate 320 1
 numbered_line bits (f ∷ fs) = numbered_line bits fs ++ frame_on_line f.shift (bits (length fs))
@@ -93,7 +95,8 @@ numbered_of f = record { start = f.start; shift = f.shift; carries = f.carries }
 abbrev pub newest_bits : {A : Type 0} → (ℕ → List ℕ) → List (MadeFrame A) → List ℕ
 newest_bits bits fs = bits (length fs - 1)
 
--- After k periods, the made frames are exactly those whose octets have all arrived, each made in the period that brought the last of them.
+-- After k periods, the made frames are exactly those whose octets have all arrived, each made in the period that
+-- brought the last of them.
 pub record AreInTime {A : Type 0} (k : ℕ) (fs : List (MadeFrame A)) : Type 0 where
   pub made : All (λ f. (f.period ≡ when f.start) × (f.start + 160 ≤ 160 * k)) fs
   pub next : 160 * k < next_start fs + 160

@@ -1,19 +1,20 @@
--- The frames of a downlink and the line that they make, by absolute places of the Pcm line and of the downlink (this project's profile, modelled on
--- GSM 08.60). Lists of periods and of frames have the newest first.
+-- The frames of a downlink and the line that they make, by absolute places of the Pcm line and of the downlink (this
+-- project's profile, modelled on GSM 08.60). Lists of periods and of frames have the newest first.
 use Rattle.std.specs.Prelude.{ℕ, ◌+◌, ◌-◌, ◌*◌, ℤ, pos, negsuc, Bool, false, if◌then◌else◌, ◌==◌, nat_le, Option, Some, None, is_none, List, [], ◌∷◌, ◌++◌}
 use Rattle.std.specs.Prelude.{length, map, take, drop, replicate, filter, find}
 use Rattle.time_align.specs.Shift.{latest_shift}
 
--- A period of 20 ms as the downlink sees it: the alignment field of its uplink frame of speech or idle, if it has one; whether a bridge starts at it;
--- whether it lies in a bridge, and so hands a frame over; and its load, which is any other data for its frames.
+-- A period of 20 ms as the downlink sees it: the alignment field of its uplink frame of speech or idle, if it has one;
+-- whether a bridge starts at it; whether it lies in a bridge, and so hands a frame over; and its load, which is any
+-- other data for its frames.
 pub record Period (A : Type 0) : Type 0 where
   pub field : Option ℕ
   pub starts : Bool
   pub bridged : Bool
   pub load : A
 
--- A made frame: its first octet of the Pcm line; the period that makes it; its shift; the period whose handed frame it carries; the number of bridges
--- that had started by then; and the load of its period.
+-- A made frame: its first octet of the Pcm line; the period that makes it; its shift; the period whose handed frame it
+-- carries; the number of bridges that had started by then; and the load of its period.
 pub record MadeFrame (A : Type 0) : Type 0 where
   pub start : ℕ
   pub period : ℕ
@@ -46,14 +47,16 @@ hands_at k (p ∷ past) = if k == length past then p.bridged else hands_at k pas
 abbrev pub made_from : {A : Type 0} → ℕ → List (MadeFrame A) → ℕ
 made_from s fs = length (filter (λ f. nat_le s f.period) fs)
 
--- The period whose handed frame goes out next: the start of the latest bridge plus the number of frames made since, if that period is in the bridge.
+-- The period whose handed frame goes out next: the start of the latest bridge plus the number of frames made since, if
+-- that period is in the bridge.
 abbrev pub handed_due : {A : Type 0} → List (Period A) → List (MadeFrame A) → Option ℕ
 handed_due ps fs = elim (latest_start ps) [
   | None ↦ None
   | Some s ↦ let h = s + made_from s fs in if hands_at h ps then Some h else None
 ]
 
--- the fields of the periods after that of the last frame that carried nothing, or of all periods if there is no such frame
+-- the fields of the periods after that of the last frame that carried nothing, or of all periods if there is no such
+-- frame
 abbrev pub counted_fields : {A : Type 0} → List (Period A) → List (MadeFrame A) → List (Option ℕ)
 counted_fields ps fs = elim (find (λ f. is_none f.carries) fs) [
   | None ↦ map (λ p. p.field) ps
@@ -90,8 +93,8 @@ made_frames (p ∷ past) = grown p past (grown p past (made_frames past))
 
 -- ---- the line
 
--- a frame on the downlink: its 320 bits and then two ones for each octet that is lost, or its bits without the four T bits if octets are taken a
--- second time
+-- a frame on the downlink: its 320 bits and then two ones for each octet that is lost, or its bits without the four T
+-- bits if octets are taken a second time
 abbrev pub frame_on_line : ℤ → List ℕ → List ℕ
 frame_on_line (pos v) bits = bits ++ replicate (2 * v) 1
 frame_on_line (negsuc v) bits = take 316 bits

@@ -9,8 +9,8 @@ use Rattle.down_framer.specs.Memory.{FramerMemory, IsBetweenPeriods, IsWithinPer
 abbrev pub ring_memory : Buffer ℕ → Buffer ℕ → ℕ → FramerMemory
 ring_memory bits octets skip = record { stored = bits.items; held = octets.items; to_skip = skip }
 
--- Room for 960 bits and 320 octets. At most the greatest shift is to be skipped, and only if none are held. A framer is between periods or
--- within one.
+-- Room for 960 bits and 320 octets. At most the greatest shift is to be skipped, and only if none are held. A framer is
+-- between periods or within one.
 pub record AreRings (bits octets : Buffer ℕ) (skip : ℕ) : Type 0 where
   pub rooms : (bits.capacity ≡ 960) × (octets.capacity ≡ 320)
   pub fits : (length bits.items ≤ 960) × (length octets.items ≤ 320)

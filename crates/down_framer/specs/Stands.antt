@@ -3,8 +3,9 @@ use Rattle.std.specs.Prelude.{◌≡◌, ℕ, ◌+◌, ◌-◌, ◌*◌, ◌<◌
 use Rattle.down_framer.specs.Memory.{FramerMemory}
 use Rattle.down_framer.specs.Made.{Period, MadeFrame, next_start, grown, made_frames, downlink_of}
 
--- The octets held are those of the Pcm line from the next frame's start on. If that start lies past the end of the line, the octets up to it are to
--- be skipped. The bits in store are those of the downlink so far, without the first `out`.
+-- The octets held are those of the Pcm line from the next frame's start on. If that start lies past the end of the
+-- line, the octets up to it are to be skipped. The bits in store are those of the downlink so far, without the first
+-- `out`.
 pub record Holds (pcm line : List ℕ) (out start : ℕ) (s : FramerMemory) : Type 0 where
   pub held : s.held ≡ drop start pcm
   pub to_skip : s.to_skip ≡ start - length pcm

@@ -1,5 +1,7 @@
 //! The downlink of a call, cut into periods (this project's profile, modelled on GSM 08.60).
 //!
+//! Layer: The downlink and the transmit side.
+//!
 //! The framer works between the exchange's line (160 octets a period of 20 ms) and the downlink (40 octets a period).
 //! It keeps the octets from the next frame's start on, says when a frame is to be made and from which 160 octets, takes
 //! the frame's 320 bits, and gives out the bits of each period. A shift moves the frames after it: either octets are

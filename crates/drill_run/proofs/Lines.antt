@@ -14,9 +14,9 @@ use Rattle.trau_io.specs.Memory.{MemoryLine, state_of, states_of, known_line}
 use Rattle.trau_orders.specs.Lists.{AreOrders}
 use Rattle.run_spec.specs.Run.{Run, start_in, end_in, periods_in, who_in}
 use Rattle.run_spec.specs.Lines.{out_of_call, down_of_call}
-use Rattle.run_spec.proofs.SoFar.{so_far_at_first}
+use Rattle.run_spec.proofs.Periods.SoFar.{so_far_at_first}
 use Rattle.call_leg.proofs.LineLaws.{length-out_line}
-use Rattle.run_spec.proofs.LongerLines.{length-down_octets, length-periods_to}
+use Rattle.run_spec.proofs.Parts.LongerLines.{length-down_octets, length-periods_to}
 use Rattle.farm_run.specs.Runs.{HasWritten, is_listed}
 use Rattle.farm_run.proofs.Listed.Tests.{listed_head, one_line, or_cases}
 use Rattle.farm_run.proofs.Clocks.Reach.{end_within_run}

@@ -22,8 +22,8 @@ drilled_run seed calls periods = record {
   periods = periods;
 }
 
--- The text of a run in which no line fails: the report, followed by a line for each call, in call-number order, with the sums of
--- what the run gives its outgoing lines.
+-- The text of a run in which no line fails: the report, followed by a line for each call, in call-number order, with
+-- the sums of what the run gives its outgoing lines.
 unfoldable pub text_with_sums : Run → List ℕ
 text_with_sums r = report_text (report_of r []) ++ flat_map (λ c. sum_line c (out_of_call r c) (down_of_call r c)) (calls_in r)
 

@@ -30,8 +30,8 @@ pub record AreAmple (d : DrillMemory) : Type 0 where
   pub long : length d.lines ≡ LINE_INDICES
   pub each : (i : ℕ) (l : MemoryLine) → 4 ≤ i → i < 4 * (d.calls + 1) → slice_get d.lines i ≡ Some l → IsAmple (room_by d.periods (i % 4)) l
 
--- The lines of number 0, which no call has, show the numbers of calls and periods. An operation changes no line but its own; so
--- these numbers stay, even for code that knows nothing else of the lines.
+-- The lines of number 0, which no call has, show the numbers of calls and periods. An operation changes no line but its
+-- own; so these numbers stay, even for code that knows nothing else of the lines.
 abbrev pub number_told : ℕ → LineState
 number_told n = record { to_come = Some (replicate n 0); written = None; faults = 0 }
 

@@ -12,7 +12,7 @@ use trau_io::{Failed, Line, MemTrunk, Trunk};
 pub(crate) struct DrillTrunk {
     lines: MemTrunk,
     calls: u32,
-    periods: u32,
+    pub(crate) periods: u32,
 }
 
 impl Model for DrillTrunk {
@@ -36,14 +36,6 @@ impl DrillTrunk {
             calls,
             periods,
         }
-    }
-
-    /// For the prover only: reading the field brings in the type's invariant. Whatever was done to the lines, they have their
-    /// rooms.
-    pub(crate) fn has_rooms(&self)
-        ensures { AreAmple self.now }
-    {
-        let _periods = self.periods;
     }
 
     /// The octets written to a line.

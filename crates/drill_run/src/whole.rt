@@ -13,7 +13,7 @@ use pool_run::Gate;
 use std::alloc::{AllocError, Global};
 use std::sync::Wait;
 use std::thread::Threads;
-use trau_orders::{OrderFault, Orders, one_answer};
+use trau_orders::{OrderFault, Orders};
 
 // The orders of a text without a bad line.
 fn orders_of(alloc: Global, text: &[u8]) -> Result<Orders, AllocError>
@@ -30,9 +30,9 @@ fn orders_of(alloc: Global, text: &[u8]) -> Result<Orders, AllocError>
     }
 }
 
-/// Runs a drill of `calls` calls, at most 256, whose lines are drawn from `seed`: over lines in memory, at this pace, for the
-/// pace's number of periods, at most 1,000. Returns the report, followed by the sums of the octets of each call's outgoing lines.
-/// An error says that memory ran out.
+/// Runs a drill of `calls` calls, at most 256, whose lines are drawn from `seed`: over lines in memory, at this pace,
+/// for the pace's number of periods, at most 1,000. Returns the report, followed by the sums of the octets of each
+/// call's outgoing lines. An error says that memory ran out.
 ///
 /// The run waits for its workers; that it returns isn't proved.
 pub fn run_drill<R: Threads + Wait + Sync, G: Gate + Sync>(
@@ -49,11 +49,11 @@ pub fn run_drill<R: Threads + Wait + Sync, G: Gate + Sync>(
     ensures { IfOk result (λ text. IsDrilled seed calls pace.now.periods (string_bytes text)) }
 {
     // A law: lines spell at most one list of orders, and if they do, none is bad.
-    one_answer();
+    trau_orders::laws::one_answer();
     let (lines, text) = drill(alloc, seed, calls, pace.periods)?;
     let orders = orders_of(alloc, &text)?;
     let mut trunk = DrillTrunk::new(lines, calls, pace.periods);
     let report = run(rt, alloc, pace, orders, &mut trunk, gate)?;
-    trunk.has_rooms();
+    crate::laws::lines_have_rooms(&trunk);
     text_of(alloc, &report, &trunk)
 }

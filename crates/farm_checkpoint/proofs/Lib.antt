@@ -1,4 +1,5 @@
--- The lines of marks and their numbers, how long they are, what a front of a text tells of them, and how two lists of calls differ.
+-- The lines of marks and their numbers, how long they are, what a front of a text tells of them, and how two lists of
+-- calls differ.
 mod Fields
 mod Rising
 mod Lines

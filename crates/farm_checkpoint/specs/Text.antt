@@ -33,8 +33,8 @@ pub record HasLines (text : List ℕ) (mark : MarkView) (n : ℕ) : Type 0 where
   pub rest : List ℕ
   pub whole : text ≡ concat (take n (mark_lines mark)) ++ rest
 
--- line n, counted from 1, is the first that isn't in the grammar: the lines before it are the first ones of a mark with more lines, and
--- together with it they are the first ones of no mark
+-- line n, counted from 1, is the first that isn't in the grammar: the lines before it are the first ones of a mark with
+-- more lines, and together with it they are the first ones of no mark
 pub record IsFirstBad (text : List ℕ) (n : ℕ) : Type 0 where
   pub at_least : 1 ≤ n
   pub before : MarkView

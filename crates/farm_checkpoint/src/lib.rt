@@ -1,5 +1,7 @@
 //! The mark of a checkpoint: the state of a run at a period of 20 ms, as a text.
 //!
+//! Layer: Orders, marks, the board, the lines of a round.
+//!
 //! A run that is resumed later processes its recordings again from the start. The mark then shows whether it has
 //! reached the state in which the first part ended. A mark lists the calls that were open, each with its first
 //! period and the sums of the octets of its outgoing lines. This crate writes, reads and compares marks. `farm_run`
@@ -13,14 +15,13 @@
 
 mod compare;
 mod fault;
-mod laws;
+pub mod laws;
 mod line;
 mod mark;
 mod read;
 mod write;
 
 pub use fault::MarkFault;
-pub use laws::{marks_are_short, one_answer};
 pub use mark::{Mark, MarkCall};
 pub use read::read_mark;
 pub use write::write_mark;

@@ -1,4 +1,5 @@
--- For crates above: a drilled call has its lines (`drilled-of_call`), and what a table of lines has where one was set (`get-same`, `get-other`).
+-- For crates above: a drilled call has its lines (`drilled-of_call`), and what a table of lines has where one was set
+-- (`get-same`, `get-other`).
 -- The lines of a drill, as those of one call after the other are set.
 use Rattle.std.proofs.Common.{◌≡◌, ◌≢◌, ℕ, zero, suc, ◌-◌, ◌<◌, ◌≤◌, Bool, true, false, ◌&&◌, inl, inr, List, [], length, Some, slice_get, slice_set, refl, sym}
 use Rattle.std.proofs.Common.{ap, ◌∙◌, subst, arith}

@@ -43,8 +43,8 @@ hostile_kind number =
     else if number == 4 then Cut
     else DataOnes
 
--- the 40 octets of a period: bits alone, frames of zero samples that ask for the greatest delay (39) or an advance (63) or that are each cut
--- after their 305th bit, or good frames whose data bits are all 1
+-- the 40 octets of a period: bits alone, frames of zero samples that ask for the greatest delay (39) or an advance (63)
+-- or that are each cut after their 305th bit, or good frames whose data bits are all 1
 unfoldable pub hostile_octets : HostileKind → ℕ → List ℕ
 hostile_octets Zeros period = replicate 40 0
 hostile_octets Ones period = replicate 40 255

@@ -25,8 +25,8 @@ kind_drawn t = if nat_lt t 244 then Speech else Idle
 abbrev pub field_drawn : ℕ → ℕ
 field_drawn a = if a == 0 then 39 else if a == 1 then 63 else 0
 
--- the frame of a period: its first draw, 260 draws for D1 to D260, and its last. TAF is 1 in the last of each 24 periods, DTXd in
--- all
+-- the frame of a period: its first draw, 260 draws for D1 to D260, and its last. TAF is 1 in the last of each 24
+-- periods, DTXd in all
 abbrev pub frame_drawn : ℕ → ℕ → ℕ → UpWords
 frame_drawn seed call period =
     let first = first_draw period in

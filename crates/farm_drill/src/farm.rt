@@ -28,10 +28,10 @@ fn set_calls(
     Ok(())
 }
 
-/// Draws the lines and the text of the orders of a drill from a seed: calls 1 to `calls`, at most 256, each of `periods` periods
-/// of 20 ms, at most 1,000. The text is a text of orders within the limits. An error says that memory ran out. It takes 400 octets
-/// for each call and period, call by call: half for the incoming lines before the call's first draw, and half as room for the
-/// outgoing lines after its last.
+/// Draws the lines and the text of the orders of a drill from a seed: calls 1 to `calls`, at most 256, each of
+/// `periods` periods of 20 ms, at most 1,000. The text is a text of orders within the limits. An error says that memory
+/// ran out. It takes 400 octets for each call and period, call by call: half for the incoming lines before the call's
+/// first draw, and half as room for the outgoing lines after its last.
 pub fn drill(
     alloc: Global,
     seed: u32,

@@ -12,16 +12,22 @@ use trau_frame::{Class, Kind, UpFrame};
 // The octet that a silent line carries.
 const IDLE_OCTET: u8 = 0xD5;
 
-fn kind(t: u8) -> Kind
-    ensures { result ≡ kind_drawn t }
+// The kind of a frame, by the first draw of its period.
+fn kind(choice: u8) -> Kind
+    ensures { result ≡ kind_drawn choice }
 {
-    if t < 244 { Kind::Speech } else { Kind::Idle }
+    if choice < 244 {
+        Kind::Speech
+    } else {
+        Kind::Idle
+    }
 }
 
-fn class(t: u8) -> Class
-    ensures { result ≡ class_drawn t }
+// The class of its contents, by the same draw.
+fn class(choice: u8) -> Class
+    ensures { result ≡ class_drawn choice }
 {
-    match t {
+    match choice {
         0..=199 => Class::Good,
         200..=219 => Class::Sid,
         220..=229 => Class::InvalidSid,
@@ -29,11 +35,12 @@ fn class(t: u8) -> Class
     }
 }
 
-fn field(a: u8) -> u8
-    ensures value { result ≡ field_drawn a }
+// The alignment field, by the last draw for the uplink: mostly it asks for nothing.
+fn field(choice: u8) -> u8
+    ensures value { result ≡ field_drawn choice }
     ensures six_bits { result ≤ 63 }
 {
-    match a {
+    match choice {
         0 => 39,
         1 => 63,
         _ => 0,
@@ -47,25 +54,25 @@ pub fn uplink(generator: &mut Generator, period: u32) -> [u8; 40]
     ensures octets { (seed call : ℕ) → generator.old.x ≡ draw_state seed call (first_draw period) →
         result ≡ up_octets seed call period }
 {
-    let t = generator.draw();
-    let d = generator.bits();
-    let a = generator.draw();
-    if t >= 250 {
+    let choice = generator.draw();
+    let data = generator.bits();
+    let ask = generator.draw();
+    if choice >= 250 {
         return [0; 40];
     }
     let frame = UpFrame {
-        kind: kind(t),
-        class: class(t),
+        kind: kind(choice),
+        class: class(choice),
         taf: period % 24 == 23,
         dtxd: true,
-        align: field(a),
-        d,
+        align: field(ask),
+        d: data,
     };
     octets(&bits(&frame))
 }
 
-/// The octets of a period from the exchange. The generator is after the draws for the uplink. If the line is loud, it takes 160
-/// draws.
+/// The octets of a period from the exchange. The generator is after the draws for the uplink. If the line is loud, it
+/// takes 160 draws.
 pub fn pcm(generator: &mut Generator, period: u32) -> [u8; 160]
     ensures now { (seed call : ℕ) → generator.old.x ≡ draw_state seed call (first_loud_draw period) →
         generator.new.x ≡ draw_state seed call (first_draw (period + 1)) }

@@ -59,7 +59,8 @@ abbrev pub periods_after : List CallPeriod → List Entry → List CallPeriod
 periods_after ts [] = ts
 periods_after ts (e ∷ es) = periods_after (period_of e.post ∷ ts) es
 
--- each entry's post has the octets of a period, and its outgoing octets are those that the call's definition gives for it after all earlier periods
+-- each entry's post has the octets of a period, and its outgoing octets are those that the call's definition gives for
+-- it after all earlier periods
 abbrev pub IsWorkedFrom : Who → List CallPeriod → List Entry → Type 0
 IsWorkedFrom who ts [] = Unit {0}
 IsWorkedFrom who ts (e ∷ es) =

@@ -35,8 +35,8 @@ HasAnswered x v w (Err (fault.Full post)) = IsPosted x v w posted.Full × (post 
 HasAnswered x v w (Err fault.Busy) = IsPosted x v w posted.Busy
 
 module _ {Q A : Type 0} where
-  -- a caller's seat at the slot of a call, between its functions: the caller doesn't have the book in hand, its number is one of the
-  -- view's, and it counts its posts
+  -- a caller's seat at the slot of a call, between its functions: the caller doesn't have the book in hand, its number
+  -- is one of the view's, and it counts its posts
   pub record IsSeat (book : BookOf) (slot : Slotted (Option Token) (Doing Token View) Q A) (caller : ℕ) (s : Seat) : Type 0 where
     pub pass : IsPassOf slot s.pass
     pub capacity : ruled_capacity slot ≡ 1

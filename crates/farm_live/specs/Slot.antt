@@ -1,5 +1,5 @@
--- The rule of one slot: there is one book, in the slot or in one caller's hand. It begins with all that any caller saw of
--- it, and each caller's posts in it are those that the caller made, numbered in order.
+-- The rule of one slot: there is one book, in the slot or in one caller's hand. It begins with all that any caller saw
+-- of it, and each caller's posts in it are those that the caller made, numbered in order.
 use Rattle.std.specs.Prelude.{◌≡◌, ◌⊎◌, ℕ, zero, suc, ◌+◌, ◌*◌, ◌<◌, ◌≤◌, Bool, true, false, ◌==◌, List, [], ◌∷◌, ◌++◌, length, drop, take}
 use mathlib.Core.Option.{some}
 use lib.ListN.{get_elem?}
@@ -124,7 +124,8 @@ spent = record { callers = []; is_of = no_call; holds = false; taken = no_book; 
 abbrev pub missed : View → View
 missed v = record v { misses = v.misses + 1 }
 
--- Another caller had the book in hand, so this view doesn't have the numbers of all 64. A miss was counted, and nothing else changed.
+-- Another caller had the book in hand, so this view doesn't have the numbers of all 64. A miss was counted, and nothing
+-- else changed.
 pub record HasMissed (v w : View) : Type 0 where
   pub counted : w ≡ missed v
   pub others : number_of_callers v < 64
@@ -158,7 +159,8 @@ abbrev pub Gave : View → Token → View → Type 0
 Gave v (Here b) w = w ≡ gave v b
 Gave v Out w = w ≡ v
 
--- it may be given back like this: it begins with the book that was taken, and its new posts continue the numbers and are of this view's callers
+-- it may be given back like this: it begins with the book that was taken, and its new posts continue the numbers and
+-- are of this view's callers
 pub record May (v : View) (b : BookState) : Type 0 where
   pub begins : BeginsWith b v.taken
   pub own : (c : ℕ) → times c v.callers ≡ 0 → of_caller c (added v b) ≡ []

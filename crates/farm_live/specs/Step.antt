@@ -11,7 +11,8 @@ use Rattle.call_leg.specs.Stands.{Stands}
 use Rattle.farm_live.specs.declared.post.Entry.{Entry}
 use Rattle.farm_live.specs.Book.{period_of}
 
--- after any periods of a call without orders, the entry has the octets of the next one, and the leg has the memory after it
+-- after any periods of a call without orders, the entry has the octets of the next one, and the leg has the memory
+-- after it
 abbrev pub WorksOn : LegMemory → Entry → LegMemory → Type 0
 WorksOn old e new = (who : Who) (ts : List CallPeriod) → Stands who ts new_settings old →
     Stands who (period_of e.post ∷ ts) new_settings new

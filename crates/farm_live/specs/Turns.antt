@@ -13,8 +13,8 @@ use Rattle.farm_live.specs.declared.turns.Look.TheVariants as look
 use Rattle.farm_live.specs.Book.{BookState, no_book, empty_book, record_of, of_caller, NumberedFrom, IsLegal, with_post, Worked, is_of_post, most_posts}
 use Rattle.farm_live.specs.Slot.{AllSeen, own_posts, times, all_callers, number_of_callers, HasMissed}
 
--- The book was taken once. It begins with all that was seen of it, its history is legal, each caller's posts in it are numbered in order,
--- and the posts of this view's callers are those that they made.
+-- The book was taken once. It begins with all that was seen of it, its history is legal, each caller's posts in it are
+-- numbered in order, and the posts of this view's callers are those that they made.
 pub record Held (v w : View) : Type 0 where
   pub takings : w.takings ≡ v.takings + 1
   pub misses : w.misses ≡ v.misses
@@ -39,8 +39,8 @@ pub record Turned (v w : View) (back : BookState) (more : List Post) : Type 0 wh
 abbrev pub Looked : View → View → Type 0
 Looked v w = Turned v w w.taken []
 
--- The post is at the back of the inbox, unless that is full. If another caller has the book in hand, the call is busy, and only the count
--- of misses changes.
+-- The post is at the back of the inbox, unless that is full. If another caller has the book in hand, the call is busy,
+-- and only the count of misses changes.
 abbrev pub IsPosted : Post → View → View → Posted → Type 0
 IsPosted x v w posted.Did = Turned v w (with_post w.taken x) (x ∷ []) × (length w.taken.inbox < v.is_of.room)
 IsPosted x v w posted.Full = Looked v w × (length w.taken.inbox ≡ v.is_of.room)

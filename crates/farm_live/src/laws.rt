@@ -11,8 +11,6 @@ ghost use Rattle.farm_live.specs.Whole.{call_of_posts, outs_of, downs_of};
 ghost use Rattle.farm_live.specs.Slot.{HasMissed};
 ghost use Rattle.farm_live.specs.Live.{numbers_of};
 
-use call_spec::lines_of_a_call;
-
 /// The only caller of a farm, whose views have the numbers of all callers, never finds a call busy.
 pub fn one_caller_is_never_busy()
     ensures { (v w : View) → v.callers ≡ numbers_of 1 0 → HasMissed v w → ⊥ }
@@ -25,5 +23,5 @@ pub fn legal_histories_are_whole_calls()
     ensures down { (call : ℕ) (es : List Entry) → IsLegal call es →
         bits_of (downs_of es) ≡ down (call_of_posts call (map (λ e. e.post) es)) }
 {
-    lines_of_a_call();
+    call_spec::laws::lines_of_a_call();
 }

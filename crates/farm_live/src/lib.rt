@@ -1,5 +1,7 @@
 //! A live farm: callers on threads of their own post periods to calls, and any caller can process any call.
 //!
+//! Layer: One call.
+//!
 //! Each call has a book: its leg (`call_leg`), its history (the processed posts with their output octets) and its
 //! inbox (the posts that wait). The book moves through a slot, a queue with room for one. Whoever takes it owns the
 //! call, and gives it back within the same function. A caller that finds the book taken reports that the call is
@@ -31,14 +33,13 @@
 
 mod book;
 mod closing;
-mod laws;
+pub mod laws;
 mod live;
 mod opening;
 mod post;
 mod slot;
 mod turns;
 
-pub use laws::{legal_histories_are_whole_calls, one_caller_is_never_busy};
 pub use live::{Caller, Closed, Live, PostFault};
 pub use post::{BookOf, Entry, Post};
 pub use turns::{Look, Turn};

@@ -1,5 +1,7 @@
 //! The report of a run: the results of its orders, bridges and calls, as text.
 //!
+//! Layer: The report, the pool, the jobs of a round.
+//!
 //! At the end of a run it takes the board's replies, spans and ends, and from the rounds the calls' counts and the
 //! lines that failed. From these it makes the text that goes to the desk.
 //!

@@ -1,5 +1,5 @@
-//! A gate between two posts: before its second period, each of the calls 1 and 2 waits until the other call is between its own
-//! first and second period.
+//! A gate between two posts: before its second period, each of the calls 1 and 2 waits until the other call is between
+//! its own first and second period.
 
 use crate::counts::Counts;
 use pool_run::Gate;

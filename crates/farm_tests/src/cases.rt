@@ -1,4 +1,5 @@
-//! Commands over lines in memory, and what comes of each: tables of runs that need no second run have one loop and one comparison.
+//! Commands over lines in memory, and what comes of each: tables of runs that need no second run have one loop and one
+//! comparison.
 
 use crate::commands::{AtDesk, carry};
 use crate::lines::{ALL, Laid, line, trunk_of};
@@ -85,7 +86,8 @@ fn run_over<R: Abort + Threads + Wait + Sync, G: Gate + Sync>(
     outcome.is(case.status, case.text)
 }
 
-// Whether a command comes out as its case says, with this gate for the workers and lines in chunks of at most `cut` octets.
+// Whether a command comes out as its case says, with this gate for the workers and lines in chunks of at most `cut`
+// octets.
 pub(crate) fn comes_of<R: Abort + Threads + Wait + Sync, G: Gate + Sync>(
     rt: &R,
     alloc: Global,

@@ -103,7 +103,8 @@ pub(crate) fn carry<R: Abort + Threads + Wait + Sync, G: Gate + Sync>(
     Outcome { status, text }
 }
 
-// Runs the command of these words over these lines, with these orders and this gate for the workers. Returns the status.
+// Runs the command of these words over these lines, with these orders and this gate for the workers. Returns the
+// status.
 pub(crate) fn status_over<R: Abort + Threads + Wait + Sync, G: Gate + Sync>(
     rt: &R,
     alloc: Global,

@@ -5,8 +5,8 @@ use std::sync::atomic::{AtomicU64, Ordering};
 // A number that is no call's: what is counted of it is wrong.
 pub(crate) const WRONG: u32 = 0;
 
-// They share a word of which each has sixteen bits, those of all other numbers the lowest: what holds counts has one atomic to
-// drop, and not four.
+// They share a word of which each has sixteen bits, those of all other numbers the lowest: what holds counts has one
+// atomic to drop, and not four.
 #[derive(Drop)]
 pub(crate) struct Counts {
     word: AtomicU64,

@@ -1,4 +1,5 @@
-//! The command `run` over two calls. The desk fails at each of its first ten reads and at each of its first ten writes: 20 runs.
+//! The command `run` over two calls. The desk fails at each of its first ten reads and at each of its first ten writes:
+//! 20 runs.
 
 use crate::cases::Got::Count;
 use crate::cases::{Got, have};
@@ -40,7 +41,8 @@ fn is_untold<R: Abort + Threads + Wait + Sync>(
     run.is_cut(number, whole.desk.text()) & is_written(&run.trunk, &whole.trunk)
 }
 
-// How many of the first ten reads and writes of the desk fail as they should, in turn. `whole` is a run in which none fails.
+// How many of the first ten reads and writes of the desk fail as they should, in turn. `whole` is a run in which none
+// fails.
 fn failed<R: Abort + Threads + Wait + Sync>(rt: &R, alloc: Global, whole: &Outcome) -> usize {
     for number in 0..10u32 {
         if !(is_unread(rt, alloc, number) & is_untold(rt, alloc, number, whole)) {

@@ -153,8 +153,8 @@ fn lines_that_never_end_come_to_the_limit(rt: HostRuntime) {
     assert_row(&rt, 1, comes_to_the_limit(&rt, rt.alloc()));
 }
 
-// Runs over hostile uplinks and an idle Pcm line; and the yields of the search on the uplink whose frames are cut after their 305th
-// bit.
+// Runs over hostile uplinks and an idle Pcm line; and the yields of the search on the uplink whose frames are cut after
+// their 305th bit.
 static HOSTILE: [Case; 7] = [
     Case {
         words: &["run"],

@@ -1,6 +1,6 @@
-//! The command `run` over two calls. Each line fails at each of its first ten operations: 80 runs. Incoming lines also fail at the
-//! eleventh operation, which gives their end, and are set to fail at the twelfth, which isn't done. Each run is compared with a run
-//! over the octets that were given, in which no operation fails.
+//! The command `run` over two calls. Each line fails at each of its first ten operations: 80 runs. Incoming lines also
+//! fail at the eleventh operation, which gives their end, and are set to fail at the twelfth, which isn't done. Each
+//! run is compared with a run over the octets that were given, in which no operation fails.
 
 use crate::lines::Octets::Numbered;
 use crate::lines::{ALL, Laid, NONE, lay, line};
@@ -15,8 +15,8 @@ use std::thread::Threads;
 use trau_io::Side::{Down, Out, Pcm, Up};
 use trau_io::{MemTrunk, Side};
 
-// For each operation, how many octets the operations before it move: rounds of 4, 7, 7, 7 and 5 periods, in chunks. Operation 10
-// of an incoming line is the read that gives `Ok(0)`.
+// For each operation, how many octets the operations before it move: rounds of 4, 7, 7, 7 and 5 periods, in chunks.
+// Operation 10 of an incoming line is the read that gives `Ok(0)`.
 const BEFORE_40: [usize; 11] = [0, 150, 160, 310, 440, 590, 720, 870, 1000, 1150, OF_40];
 
 const BEFORE_160: [usize; 11] = [
@@ -140,14 +140,14 @@ fn put(rt: &impl Abort, told: &mut String, text: &str) {
     told.push_str(text).expect(rt, "memory");
 }
 
-// Whether the fault ends a call: not if an outgoing line fails, and not if Pcm fails where Up ends, since the end of Up goes
-// first.
+// Whether the fault ends a call: not if an outgoing line fails, and not if Pcm fails where Up ends, since the end of Up
+// goes first.
 fn ends_its_call(side: Side, before: usize) -> bool {
     side == Up || side == Pcm && before < OF_160
 }
 
-// How a line of the report goes on before its new end, and that end: its own front and the fault's cause, if it is the line of a
-// call that the fault ends.
+// How a line of the report goes on before its new end, and that end: its own front and the fault's cause, if it is the
+// line of a call that the fault ends.
 fn ended<'a>(row: &Failing, ends: bool, text: &'a str) -> (&'a str, &'static str) {
     if !ends || !text.starts_with(row.head) {
         return (text, "");
@@ -169,8 +169,8 @@ fn put_line(rt: &impl Abort, told: &mut String, row: &Failing, ends: bool, text:
     put(rt, told, "\n");
 }
 
-// From the report of the run over the octets that were given, the report of the run with the fault: the line is listed before
-// the last line, and its call may end by the fault.
+// From the report of the run over the octets that were given, the report of the run with the fault: the line is listed
+// before the last line, and its call may end by the fault.
 fn told_of(rt: &impl Abort, alloc: Global, row: &Failing, ends: bool, calm: &[u8]) -> String {
     let calm = str::from_utf8(calm).expect(rt, "text");
     let mut told = String::new(alloc);
@@ -250,8 +250,8 @@ fn ends_once<R: Abort + Threads + Wait + Sync>(
         & (run.trunk.faults(line(row.call, row.side)) == 0)
 }
 
-// Whether a run in which an incoming line fails at operation `number` agrees with the run over the octets that were given before
-// it, in which nothing fails.
+// Whether a run in which an incoming line fails at operation `number` agrees with the run over the octets that were
+// given before it, in which nothing fails.
 fn is_as_before<R: Abort + Threads + Wait + Sync>(
     rt: &R,
     alloc: Global,
@@ -271,7 +271,8 @@ fn before(row: &Failing, number: u32) -> usize {
     }
 }
 
-// Whether a line fails at operation `number` as it should. If it is an outgoing one, the incoming lines give all octets.
+// Whether a line fails at operation `number` as it should. If it is an outgoing one, the incoming lines give all
+// octets.
 fn fails_at<R: Abort + Threads + Wait + Sync>(
     rt: &R,
     alloc: Global,
@@ -287,8 +288,8 @@ fn fails_at<R: Abort + Threads + Wait + Sync>(
     }
 }
 
-// How many operations of a line fail as they should, in turn: eleven of an incoming line, and ten of an outgoing one. 12 if all do,
-// and no read follows an incoming line's end.
+// How many operations of a line fail as they should, in turn: eleven of an incoming line, and ten of an outgoing one.
+// 12 if all do, and no read follows an incoming line's end.
 fn fails<R: Abort + Threads + Wait + Sync>(
     rt: &R,
     alloc: Global,

@@ -10,8 +10,8 @@ use crate::rows::assert_parts;
 use trau_io::Side::{Down, Up};
 
 // A period of ones; a frame and 312 ones, by a shift of 156; a frame without its four time bits, by a shift of -2; a
-// frame; twelve ones. Shifts are in octets of the Pcm line, two bits of the downlink each. Each frame is the downlink speech frame
-// with SP 1 and the data bits of the uplink frame (`UPLINK_FRAME`).
+// frame; twelve ones. Shifts are in octets of the Pcm line, two bits of the downlink each. Each frame is the downlink
+// speech frame with SP 1 and the data bits of the uplink frame (`UPLINK_FRAME`).
 // So the frames begin at bits 320, 952 and 1268, the third one within an octet.
 const DOWNLINK: [u8; 200] = [
     0xFF, 0xFF, 0xFF, 0xFF, 0xFF, 0xFF, 0xFF, 0xFF, 0xFF, 0xFF, 0xFF, 0xFF, 0xFF, 0xFF, 0xFF, 0xFF,

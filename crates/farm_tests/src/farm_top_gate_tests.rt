@@ -29,8 +29,8 @@ fn run_gated<R: Abort + Threads + Wait + Sync>(rt: &R, alloc: Global, gate: &Hel
     status_over(rt, alloc, &WORDS, &LINES, ORDERS, gate)
 }
 
-// Whether the run's status is 0, each call passed the gate for three slices of each phase, and each wait of the gate met its
-// condition.
+// Whether the run's status is 0, each call passed the gate for three slices of each phase, and each wait of the gate
+// met its condition.
 fn each_wait_is_answered<R: Abort + Threads + Wait + Sync>(
     rt: &R,
     alloc: Global,
@@ -41,8 +41,8 @@ fn each_wait_is_answered<R: Abort + Threads + Wait + Sync>(
     run_gated(rt, alloc, &gate) == 0 && gate.each_is_answered(6)
 }
 
-// Calls 1 and 3 start in one deque, and call 2 in the other. The worker that is held with one call of a pair can't process the
-// other call. So the other worker has to take it half done, and both have to be at work at once.
+// Calls 1 and 3 start in one deque, and call 2 in the other. The worker that is held with one call of a pair can't
+// process the other call. So the other worker has to take it half done, and both have to be at work at once.
 #[test]
 fn calls_are_stolen_half_done(rt: HostRuntime) {
     assert_row(&rt, 13, each_wait_is_answered(&rt, rt.alloc(), 1, 3));

@@ -1,5 +1,5 @@
-//! The command `live`: callers on threads of their own are at work at once, which no clause says; and the text is the same
-//! whatever they do.
+//! The command `live`: callers on threads of their own are at work at once, which no clause says; and the text is the
+//! same whatever they do.
 
 use crate::between::Between;
 use crate::cases::{Case, UNUSED, comes_of};
@@ -43,7 +43,8 @@ static BY_ONE: Case = Case {
     got: &UNUSED,
 };
 
-// Whether a drill comes out so and passes the gate once for each call, and this many waits of the gate end without their condition.
+// Whether a drill comes out so and passes the gate once for each call, and this many waits of the gate end without
+// their condition.
 fn live_met<R: Abort + Threads + Wait + Sync>(
     rt: &R,
     alloc: Global,
@@ -55,8 +56,8 @@ fn live_met<R: Abort + Threads + Wait + Sync>(
     comes_of(rt, alloc, case, ALL, &gate) && gate.passed(1) && gate.used_up() == used_up
 }
 
-// Neither of two callers can post its period before the other has come to post its own. With a single caller, the first wait
-// ends without its condition, and the rest is done all the same.
+// Neither of two callers can post its period before the other has come to post its own. With a single caller, the first
+// wait ends without its condition, and the rest is done all the same.
 #[test]
 fn both_callers_are_at_work_at_once(rt: HostRuntime) {
     assert_row(&rt, 2, live_met(&rt, rt.alloc(), &BY_TWO, 5_000_000, 0));

@@ -31,8 +31,8 @@ fn run_bridged<R: Abort + Threads + Wait + Sync>(
     status_over(rt, alloc, &words, &LINES, ORDERS, gate)
 }
 
-// Whether the run's status is 0, this many waits of the gate end without their condition, and each call passes the gate for three
-// slices of each phase.
+// Whether the run's status is 0, this many waits of the gate end without their condition, and each call passes the gate
+// for three slices of each phase.
 fn run_met<R: Abort + Threads + Wait + Sync>(
     rt: &R,
     alloc: Global,
@@ -44,9 +44,9 @@ fn run_met<R: Abort + Threads + Wait + Sync>(
     run_bridged(rt, alloc, workers, &gate) == 0 && gate.used_up() == used_up && gate.passed(6)
 }
 
-// Each call starts in a deque of its own, and neither of two workers can go on with the first slice of a phase before the other
-// has begun it. With a single worker, the wait at the start of each phase ends without its condition, and the run is done all
-// the same.
+// Each call starts in a deque of its own, and neither of two workers can go on with the first slice of a phase before
+// the other has begun it. With a single worker, the wait at the start of each phase ends without its condition, and the
+// run is done all the same.
 #[test]
 fn both_calls_of_a_bridge_are_at_work_at_once(rt: HostRuntime) {
     assert_row(&rt, 2, run_met(&rt, rt.alloc(), "2", 5_000_000, 0));

@@ -1,4 +1,5 @@
-//! The command `run` with a line that is short or fails, or a desk that fails. The values were calculated by hand from the rules.
+//! The command `run` with a line that is short or fails, or a desk that fails. The values were calculated by hand from
+//! the rules.
 
 use crate::cases::Got::{Begins, Count, Front};
 use crate::cases::{Case, come, comes_as};

@@ -1,5 +1,5 @@
-//! The commands `save` and `resume`, with the lines, the mark and the orders in memory: their status, their text and what they
-//! write.
+//! The commands `save` and `resume`, with the lines, the mark and the orders in memory: their status, their text and
+//! what they write.
 
 use crate::cases::Got::Count;
 use crate::cases::{Case, come};

@@ -18,8 +18,8 @@ use trau_io::{MemTrunk, Side};
 // Which operation of the incoming lines, of the outgoing lines and of the desk fails.
 type Faults = (u32, u32, u32);
 
-// The lines of call 7, in chunks: two good frames on Up, two periods and ten octets on Pcm. One operation fails on each incoming
-// line, and one on each outgoing line.
+// The lines of call 7, in chunks: two good frames on Up, two periods and ten octets on Pcm. One operation fails on each
+// incoming line, and one on each outgoing line.
 fn lines(rt: &impl Abort, alloc: Global, cut: u32, incoming: u32, outgoing: u32) -> MemTrunk {
     let lines = [
         Line(7, Up, Usual(80), cut, incoming),
@@ -45,8 +45,8 @@ fn carry_tool<R: Abort + Threads + Wait + Sync>(
     (outcome, trunk)
 }
 
-// The chunk size, and how many operations of each line fail in turn; how many octets are sent if read n fails, n from 0, and how
-// many if write n fails.
+// The chunk size, and how many operations of each line fail in turn; how many octets are sent if read n fails, n from
+// 0, and how many if write n fails.
 type Turn = (u32, u32, &'static [usize], &'static [usize]);
 
 // A tool, the line that it writes, and its outcome.
@@ -141,7 +141,8 @@ fn leaves<R: Abort + Threads + Wait + Sync>(
     outcome.is(status, text) & is_front(trunk.written(line(7, row.outgoing)), sent, all)
 }
 
-// Whether a command leaves what is due if operation `number` of the incoming line, of the outgoing line or of the desk fails.
+// Whether a command leaves what is due if operation `number` of the incoming line, of the outgoing line or of the desk
+// fails.
 fn fails_as_due<R: Abort + Threads + Wait + Sync>(
     rt: &R,
     alloc: Global,

@@ -8,8 +8,8 @@ use std::thread;
 // How often a wait checks its condition.
 const TURNS: u32 = 5_000_000;
 
-// Holds back the second slice of each of the calls 1, 2 and 3 until the first slices of all were run. Of a pair of calls, the one
-// that comes first to its second slice is held until the third slice of the other was run.
+// Holds back the second slice of each of the calls 1, 2 and 3 until the first slices of all were run. Of a pair of
+// calls, the one that comes first to its second slice is held until the third slice of the other was run.
 #[derive(Drop)]
 pub(crate) struct Held {
     one: u32,
@@ -31,7 +31,8 @@ impl Held {
         }
     }
 
-    // Whether each of the three calls passed `before` and `after` once for each of its slices, and each wait met its condition.
+    // Whether each of the three calls passed `before` and `after` once for each of its slices, and each wait met its
+    // condition.
     pub(crate) fn each_is_answered(&self, slices: u16) -> bool {
         self.begun.are([slices; 3]) && self.ended.are([slices; 3])
     }

@@ -1,7 +1,10 @@
-//! Tests of the top function and of the pool: operations on lines and desk that fail, runs in memory, over lines and over files,
-//! workers that steal.
+//! Tests of the top function and of the pool: operations on lines and desk that fail, runs in memory, over lines and
+//! over files, workers that steal.
 //!
-//! They are in a crate of their own, since a crate with tests is proved a second time with them. They call public functions only.
+//! Layer: Tests.
+//!
+//! They are in a crate of their own, since a crate with tests is proved a second time with them. They call public
+//! functions only.
 #![tactic(auto)]
 
 #[cfg(test)]

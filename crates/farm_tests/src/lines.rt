@@ -31,7 +31,8 @@ pub(crate) enum Octets {
     Hostile(u8, u32),
 }
 
-// What is laid before a command, in place of what earlier rows laid on the same lines. All other lines are empty, and have no room.
+// What is laid before a command, in place of what earlier rows laid on the same lines. All other lines are empty, and
+// have no room.
 #[derive(Clone, Copy)]
 pub(crate) enum Laid {
     // The four lines of a call, with these octets on Up and on Pcm. No operation fails, and each moves all that it can.
@@ -48,8 +49,8 @@ pub(crate) const FAILING: [Laid; 4] = [
     Laid::Line(1, Side::Out, Octets::Usual(0), ALL, 0),
 ];
 
-// A good uplink frame whose 260 data bits are those of 160 samples 0 encoded from the initial state, as GSM 08.60 places them.
-// Calculated by hand from the tables.
+// A good uplink frame whose 260 data bits are those of 160 samples 0 encoded from the initial state, as GSM 08.60
+// places them. Calculated by hand from the tables.
 pub(crate) static UPLINK_FRAME: [u8; 40] = [
     0x00, 0x00, 0x88, 0x00, 0x82, 0x09, 0xBA, 0x1A, 0xE4, 0x28, 0x80, 0x12, 0xA4, 0x92, 0xA4, 0x92,
     0xA2, 0x80, 0x81, 0x24, 0xC9, 0x24, 0xC9, 0x24, 0xA8, 0x00, 0x92, 0x49, 0x92, 0x49, 0x92, 0x45,
@@ -79,8 +80,8 @@ fn usual(side: Side, place: usize) -> u8 {
     }
 }
 
-// An octet that differs by period and by call: of good uplink frames with the number of the period in their data bits, or of a
-// Pcm line that changes.
+// An octet that differs by period and by call: of good uplink frames with the number of the period in their data bits,
+// or of a Pcm line that changes.
 fn numbered(side: Side, call: u32, place: usize) -> u8 {
     match (side, place % 40) {
         (Side::Up, 5) => (place / 40 % 256) as u8 ^ (call % 256) as u8,

@@ -1,5 +1,5 @@
-//! The command `run` over files in memory: its status, its text, and what the files have afterwards. The texts and the sums of octets
-//! are the model's.
+//! The command `run` over files in memory: its status, its text, and what the files have afterwards. The texts and the
+//! sums of octets are the model's.
 
 use crate::cases::sum;
 use crate::commands::AtDesk::Calm;
@@ -113,8 +113,8 @@ fn hold(rt: &impl Abort, alloc: Global, folder: &mut MemoryFolder, left: &[Left]
     hold
 }
 
-// Runs both calls over these files. Returns the status, the desk and the folder. It has no contract, so no test carries on what is
-// proved of the run.
+// Runs both calls over these files. Returns the status, the desk and the folder. It has no contract, so no test carries
+// on what is proved of the run.
 fn run_over<R: Abort + Threads + Wait + Sync>(
     rt: &R,
     alloc: Global,

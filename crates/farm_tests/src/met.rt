@@ -1,13 +1,13 @@
-//! A gate that shows that two calls are processed at once: those of a bridge in both phases of a round of three periods, or the
-//! first periods that two callers post.
+//! A gate that shows that two calls are processed at once: those of a bridge in both phases of a round of three
+//! periods, or the first periods that two callers post.
 
 use crate::counts::Counts;
 use pool_run::Gate;
 use std::sync::atomic::{AtomicU64, Ordering};
 use std::thread;
 
-// Holds the first and the fourth slice of each of the calls 1 and 2 until the same slice of the other has begun. With slices of
-// one period these are the first ones of each phase.
+// Holds the first and the fourth slice of each of the calls 1 and 2 until the same slice of the other has begun. With
+// slices of one period these are the first ones of each phase.
 #[derive(Drop)]
 pub(crate) struct Met {
     // How often a wait checks its condition.

@@ -152,7 +152,8 @@ fn finish<R: Abort + Threads + Wait + Sync>(
     are_finished(&answer, written)
 }
 
-// How many rows this number of workers finishes so, in slices of this number of places, before the first that it doesn't.
+// How many rows this number of workers finishes so, in slices of this number of places, before the first that it
+// doesn't.
 fn finished<R: Abort + Threads + Wait + Sync>(
     rt: &R,
     alloc: Global,
@@ -179,8 +180,8 @@ fn each_job_is_finished_in_its_place(rt: HostRuntime) {
     assert_parts(&rt, 641, finished(&rt, rt.alloc(), 64, 1), 3);
 }
 
-// Whether each job passed the gate three times and each wait of the gate met its condition, for three jobs of three places and
-// two workers.
+// Whether each job passed the gate three times and each wait of the gate met its condition, for three jobs of three
+// places and two workers.
 fn each_wait_is_answered<R: Abort + Threads + Wait + Sync>(
     rt: &R,
     alloc: Global,
@@ -193,8 +194,8 @@ fn each_wait_is_answered<R: Abort + Threads + Wait + Sync>(
     gate.each_is_answered(3)
 }
 
-// Jobs 1 and 3 start in one deque, and job 2 in the other. The worker that is held with one job of a pair can't run the other
-// job. So the other worker has to take it half done, and both have to be at work at once.
+// Jobs 1 and 3 start in one deque, and job 2 in the other. The worker that is held with one job of a pair can't run the
+// other job. So the other worker has to take it half done, and both have to be at work at once.
 #[test]
 fn jobs_are_stolen_half_done(rt: HostRuntime) {
     assert_row(&rt, 13, each_wait_is_answered(&rt, rt.alloc(), 1, 3));
@@ -246,7 +247,8 @@ fn each_slice_is_between<R: Abort + Threads + Wait + Sync>(
     watched.each_is_between(slices)
 }
 
-// The jobs have 3, 5 and 4 places. Each slice is run after `before` and before `after`, which get its own call's number.
+// The jobs have 3, 5 and 4 places. Each slice is run after `before` and before `after`, which get its own call's
+// number.
 #[test]
 fn each_slice_passes_the_gate(rt: HostRuntime) {
     assert_row(

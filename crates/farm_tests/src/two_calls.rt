@@ -108,8 +108,8 @@ fn tells_in_part(run: &Outcome, report: &str) -> bool {
     run.is_cut(1, report.as_bytes()) & have(&run.trunk, &UNUSED)
 }
 
-// Whether the command of these words tells its report in part if the desk fails at the second write, with lines on which each
-// operation fails.
+// Whether the command of these words tells its report in part if the desk fails at the second write, with lines on
+// which each operation fails.
 pub(crate) fn is_told_in_part<R: Abort + Threads + Wait + Sync>(
     rt: &R,
     alloc: Global,

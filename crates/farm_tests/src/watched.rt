@@ -3,7 +3,8 @@
 use crate::counts::{Counts, WRONG};
 use pool_run::{Gate, Work};
 
-// Counts the slices that the jobs of each call have run, and compares the count with how often the call has passed the gate.
+// Counts the slices that the jobs of each call have run, and compares the count with how often the call has passed the
+// gate.
 #[derive(Drop)]
 pub(crate) struct Watched {
     run: Counts,

@@ -29,8 +29,8 @@ taken_text word n = word ++ (codes " frames " ++ (decimal n ++ codes "\n"))
 abbrev pub refusal_text : List ℕ → ℕ → List ℕ
 refusal_text word n = word ++ (codes " refused " ++ (decimal n ++ codes "\n"))
 
--- `relay` takes the blocks of an uplink that are good speech frames, and nothing may be left after them; it makes their downlink
--- frames
+-- `relay` takes the blocks of an uplink that are good speech frames, and nothing may be left after them; it makes their
+-- downlink frames
 abbrev pub relay_machine : Machine
 relay_machine = record {
   shape = record { octets = 40; from = Up; lines = 1; to = Down };
@@ -54,8 +54,8 @@ decode_machine = record {
   refused_text = λ n. refusal_text (name_of Decode) n;
 }
 
--- `encode` takes every block of a Pcm line, and less than a block may be left; it makes the downlink frames of the encoded list of
--- all blocks
+-- `encode` takes every block of a Pcm line, and less than a block may be left; it makes the downlink frames of the
+-- encoded list of all blocks
 abbrev pub encode_machine : Machine
 encode_machine = record {
   shape = record { octets = 160; from = Pcm; lines = 1; to = Down };

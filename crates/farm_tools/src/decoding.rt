@@ -19,8 +19,8 @@ use trau_alaw::{Law, compress_all};
 use trau_io::{Desk, Side, Trunk};
 use trau_params::Params;
 
-/// The block machine of `decode`: the decoder after all frames so far, room for the bits of a block, and the octets that
-/// were made of the last one.
+/// The block machine of `decode`: the decoder after all frames so far, room for the bits of a block, and the octets
+/// that were made of the last one.
 #[derive(Drop)]
 pub struct Decoding {
     decoder: Decoder,

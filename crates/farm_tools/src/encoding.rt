@@ -86,10 +86,10 @@ fn encode_frame(encoder: &mut Encoder, block: &[u8], bits: &mut [u8; 320], frame
     pack_frame(&DownFrame::Speech { d, sp: true }, bits, frame);
 }
 
-/// Encodes a call's Pcm line to its downlink: for each block of 160 A-law octets (G.711) the downlink speech frame
-/// of their samples, encoded from the reset state over all blocks so far (GSM 06.10), with SP 1. No block is refused.
-/// After 4,294,967,295 blocks nothing more is read. It prints `encode frames N left R`, R being the octets after the last
-/// whole block, or `line C SIDE failed`. It doesn't allocate, and never ends with `Refused` or `Memory`.
+/// Encodes a call's Pcm line to its downlink: for each block of 160 A-law octets (G.711) the downlink speech frame of
+/// their samples, encoded from the reset state over all blocks so far (GSM 06.10), with SP 1. No block is refused.
+/// After 4,294,967,295 blocks nothing more is read. It prints `encode frames N left R`, R being the octets after the
+/// last whole block, or `line C SIDE failed`. It doesn't allocate, and never ends with `Refused` or `Memory`.
 pub fn encode<T: Trunk, D: Desk>(call: u32, trunk: &mut T, desk: &mut D) -> ToolEnd
     requires { IsCallNumber call }
     ensures runs { CommandRuns encode_machine (T.lines trunk.old) (T.lines trunk.new) (D.desk desk.old) (D.desk desk.new) call result }

@@ -8,11 +8,11 @@ use block_lines::{ToolEnd, run_command};
 use frame_listing::Listing;
 use trau_io::{Desk, Trunk};
 
-/// Lists the frames of a call's uplink: reads it in periods of 40 octets, searches it for frames at any bit, and prints a
-/// line of text for each yield of the search: `PLACE WORD`. PLACE is in bits; WORD is `good`, `sid`, `invalid`, `bad`,
-/// `idle`, `other` or `miss`. At the end it prints `frames N left R`, N being the number of yields and R the octets after
-/// the last whole period, or `line C up failed`. After 4,294,967,295 periods nothing more is read. It doesn't allocate,
-/// and never ends with `Refused` or `Memory`.
+/// Lists the frames of a call's uplink: reads it in periods of 40 octets, searches it for frames at any bit, and prints
+/// a line of text for each yield of the search: `PLACE WORD`. PLACE is in bits; WORD is `good`, `sid`, `invalid`,
+/// `bad`, `idle`, `other` or `miss`. At the end it prints `frames N left R`, N being the number of yields and R the
+/// octets after the last whole period, or `line C up failed`. After 4,294,967,295 periods nothing more is read. It
+/// doesn't allocate, and never ends with `Refused` or `Memory`.
 pub fn frames<T: Trunk, D: Desk>(call: u32, trunk: &mut T, desk: &mut D) -> ToolEnd
     requires { IsCallNumber call }
     ensures runs { CommandRuns frames_machine (T.lines trunk.old) (T.lines trunk.new) (D.desk desk.old) (D.desk desk.new) call result }

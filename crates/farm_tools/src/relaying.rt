@@ -11,8 +11,8 @@ use block_lines::{BlockMachine, Shape, ToolEnd, run_command};
 use trau_frame::DownFrame;
 use trau_io::{Desk, Side, Trunk};
 
-/// The block machine of `relay`: room for the bits of a block and of its frame, and the octets of the frame that it made
-/// last. It keeps nothing from block to block.
+/// The block machine of `relay`: room for the bits of a block and of its frame, and the octets of the frame that it
+/// made last. It keeps nothing from block to block.
 #[derive(Drop)]
 pub struct Relaying {
     bits: [u8; 320],

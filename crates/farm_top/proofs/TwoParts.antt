@@ -1,4 +1,5 @@
--- What a run to the mark's period leaves on a line, and what a run from the mark on gained there, are together what one run writes.
+-- What a run to the mark's period leaves on a line, and what a run from the mark on gained there, are together what one
+-- run writes.
 use Rattle.std.proofs.Common.{◌≡◌, ℕ, ◌*◌, Bool, true, false, List, [], ◌++◌, drop, refl, sym, ◌∙◌, ap, subst, arith}
 use Rattle.std.specs.Prelude.{is_some}
 use Rattle.std.specs.Io.KnownBytes.{Appends}
@@ -21,7 +22,8 @@ use Rattle.farm_top.specs.ResumeEnded.{Together}
 unchanged : (first saved : LineState) → saved ≡ first → Appends first.written saved.written []
 unchanged first saved same = subst (λ (l : LineState). Appends first.written l.written []) (sym same) (Appends-nil first.written)
 
--- A line gains its octets in two parts: of a call that the first part opened a front and the others, of another one all in the second.
+-- A line gains its octets in two parts: of a call that the first part opened a front and the others, of another one all
+-- in the second.
 two_parts : (first saved before now : LineState) (opened : Bool) (front octets : List ℕ) (n : ℕ) → (opened ≡ true → Appends first.written saved.written front) →
     (opened ≡ true → octets ≡ front ++ drop n octets) → (opened ≡ false → (saved ≡ first) × (n ≡ 0)) → Appends before.written now.written (drop n octets) →
     Together first saved before now octets

@@ -11,8 +11,8 @@ use Rattle.farm_top.specs.Farm.{AllStay, LacksMemory, TellsDue, TextOut}
 use Rattle.farm_top.specs.FarmEnded.{GainsFront}
 use Rattle.farm_top.specs.Headline.{Headline}
 
--- A drill has this text. There are lines on which its run leaves what it gives them; none of them failed, and the headline holds
--- for them. This doesn't say which lines the drill processed.
+-- A drill has this text. There are lines on which its run leaves what it gives them; none of them failed, and the
+-- headline holds for them. This doesn't say which lines the drill processed.
 pub record HasDrilled (seed calls periods : ℕ) (text : List ℕ) : Type 0 where
   pub drilled : IsDrilled seed calls periods text
   pub headline : Headline (drilled_run seed calls periods) none_fails drilled.before drilled.now
@@ -31,7 +31,8 @@ pub record TellsDrill (seed calls periods : ℕ) (desk desk' : DeskState) (statu
 abbrev pub CarriesDrill : ℕ → ℕ → ℕ → DeskState → DeskState → ℕ → Type 0
 CarriesDrill seed calls periods desk desk' status = TellsDrill seed calls periods desk desk' status ⊎ LacksMemory desk desk' status
 
--- What the command leaves, and why its status is what it is. The text depends only on the seed, the calls and the periods.
+-- What the command leaves, and why its status is what it is. The text depends only on the seed, the calls and the
+-- periods.
 pub record DrillEnds (seed calls periods : ℕ) (before now : ℕ → Side → LineState) (desk desk' : DeskState) (status : ℕ) : Type 0 where
   -- the status is never that of a failed line
   pub known : (status ≡ 0) ⊎ (status ≡ 4) ⊎ (status ≡ 5)

@@ -57,8 +57,8 @@ abbrev pub status_of_run : List TheLine → ℕ
 status_of_run [] = 0
 status_of_run (line ∷ lines) = 6
 
--- a text went out whole, and the status is the one that is due; or a proper prefix of it before the desk failed, and the status
--- is 4
+-- a text went out whole, and the status is the one that is due; or a proper prefix of it before the desk failed, and
+-- the status is 4
 abbrev pub TellsDue : ℕ → List ℕ → DeskState → DeskState → ℕ → Type 0
 TellsDue due text desk desk' status = ((status ≡ due) × Tells desk desk' (Ok tt) text) ⊎ ((status ≡ 4) × Tells desk desk' (Err (record {})) text)
 
@@ -70,8 +70,8 @@ TellsRun failed text desk desk' status = TellsDue (status_of_run failed) text de
 abbrev pub TellsReport : ReportView → DeskState → DeskState → ℕ → Type 0
 TellsReport report desk desk' status = TellsRun report.failed (report_text report) desk desk' status
 
--- The orders are run over the lines, and the report is printed, whatever failed. The outgoing lines have the headline, whatever the
--- desk did.
+-- The orders are run over the lines, and the report is printed, whatever failed. The outgoing lines have the headline,
+-- whatever the desk did.
 pub record RunsAndTells (orders : List Order) (pace : Pace) (before now : ℕ → Side → LineState) (desk desk' : DeskState) (status : ℕ) : Type 0 where
   pub report : ReportView
   pub runs : Runs orders pace before now report

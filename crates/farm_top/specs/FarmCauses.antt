@@ -8,8 +8,8 @@ use Rattle.trau_orders.specs.Text.{text_lines, IsFirstBad, IsWithin, IsBeyond}
 use Rattle.run_spec.specs.Run.{Run, IsOpened}
 use Rattle.farm_top.specs.Farm.{AllStay, TextOut, line_text}
 
--- the text was read to its end, its line n is bad in this way, nothing was written to the desk meanwhile, and then the desk was
--- given the text that says so
+-- the text was read to its end, its line n is bad in this way, nothing was written to the desk meanwhile, and then the
+-- desk was given the text that says so
 pub record ReadsBadText (is_bad : List ℕ → ℕ → Type 0) (text_of : ℕ → List ℕ) (desk desk' : DeskState) : Type 0 where
   pub given : List ℕ
   pub n : ℕ
@@ -42,11 +42,12 @@ SomeRose before now = (c : ℕ) × (s : Side) × Rose (before c s).faults (now c
 abbrev pub SomeOpenedRose : Run → (ℕ → Side → LineState) → (ℕ → Side → LineState) → Type 0
 SomeOpenedRose r before now = (c : ℕ) × (s : Side) × IsOpened r c × Rose (before c s).faults (now c s).faults
 
--- 3: only if a fault of the desk's reading was counted, and always if that count grew. 7: only if the orders that were read are too
--- long; if known orders are too long, the status is 7, 3 or 5. 2: only if a line that was read isn't in the grammar; if known orders
--- within the limits have such a line, the status is 2, 3 or 5. With 2, 3 and 7 no line was used. 4: only if a fault of the desk's
--- writing was counted; if that count grew, the status is 4, 2, 3, 5 or 7. 6: only if a line's fault was counted; if a line's count
--- grew, the status is 6, 4 or 5. 0: only if every line's count is unchanged. 5: out of memory.
+-- 3: only if a fault of the desk's reading was counted, and always if that count grew. 7: only if the orders that were
+-- read are too long; if known orders are too long, the status is 7, 3 or 5. 2: only if a line that was read isn't in
+-- the grammar; if known orders within the limits have such a line, the status is 2, 3 or 5. With 2, 3 and 7 no line was
+-- used. 4: only if a fault of the desk's writing was counted; if that count grew, the status is 4, 2, 3, 5 or 7. 6:
+-- only if a line's fault was counted; if a line's count grew, the status is 6, 4 or 5. 0: only if every line's count is
+-- unchanged. 5: out of memory.
 pub record RunCauses (before now : ℕ → Side → LineState) (desk desk' : DeskState) (status : ℕ) : Type 0 where
   pub known : (status ≡ 0) ⊎ (status ≡ 2) ⊎ (status ≡ 3) ⊎ (status ≡ 4) ⊎ (status ≡ 5) ⊎ (status ≡ 6) ⊎ (status ≡ 7)
   pub read_failed : status ≡ 3 → Rose desk.read_faults desk'.read_faults

@@ -1,5 +1,5 @@
--- What `run`, or a command that runs as it does, leaves if the contents of desk and lines are known and nothing fails (this
--- project's profile).
+-- What `run`, or a command that runs as it does, leaves if the contents of desk and lines are known and nothing fails
+-- (this project's profile).
 use Rattle.std.specs.Prelude.{◌≡◌, ℕ, List, [], Some}
 use Rattle.std.specs.Io.KnownBytes.{Appends}
 use Rattle.trau_io.specs.declared.line.Side.{Side}
@@ -26,8 +26,8 @@ pub record IsCalmRun (before now : ℕ → Side → LineState) (desk desk' : Des
   pub reading : IsCalm desk.read_faults desk'.read_faults
   pub writing : IsCalm desk.write_faults desk'.write_faults
 
--- What a command leaves that prints the text `of_run` of this run: the lines have what the run gives them, the desk gained exactly
--- the text, and the orders were read to their end.
+-- What a command leaves that prints the text `of_run` of this run: the lines have what the run gives them, the desk
+-- gained exactly the text, and the orders were read to their end.
 pub record CleanTelling (of_run : List ℕ) (r : Run) (before now : ℕ → Side → LineState) (desk desk' : DeskState) (status : ℕ) : Type 0 where
   pub done : status ≡ 0
   pub leaves : Leaves r none_fails before now

@@ -1,4 +1,5 @@
--- What `run`, or a command that runs as it does, leaves if its orders are known, whatever fails (this project's profile).
+-- What `run`, or a command that runs as it does, leaves if its orders are known, whatever fails (this project's
+-- profile).
 use Rattle.std.specs.Prelude.{◌≡◌, ◌≢◌, ◌⊎◌, ◌<◌, ℕ, List, [], Option, Some, length, take}
 use Rattle.std.specs.Io.KnownBytes.{Appends}
 use Rattle.trau_io.specs.declared.line.Line.{Line}
@@ -19,7 +20,8 @@ use Rattle.farm_top.specs.Headline.{Headline}
 abbrev pub GainsFront : Option (List ℕ) → Option (List ℕ) → List ℕ → Type 0
 GainsFront before now text = (n : ℕ) × (n < length text) × Appends before now (take n text)
 
--- A run of these orders that came to its end, whatever failed. `text_of` is what is printed, by the run and the lines that failed.
+-- A run of these orders that came to its end, whatever failed. `text_of` is what is printed, by the run and the lines
+-- that failed.
 pub record EndedTelling (text_of : Run → List Line → List ℕ) (orders : List Order) (s : Settings) (before now : ℕ → Side → LineState) (desk desk' : DeskState)
     (status : ℕ) : Type 0 where
   -- the lines that failed, each once: none with status 0, some with 6
@@ -40,9 +42,11 @@ pub record EndedTelling (text_of : Run → List Line → List ℕ) (orders : Lis
   -- each line that failed is one of a call that the run opened; so with status 6 a fault of such a line was counted
   pub opened : (r : Run) → IsRunOver orders s.periods (is_listed failed) before now r → OnlyOpenedFail r (is_listed failed)
   pub line_failed : status ≡ 6 → (r : Run) → IsRunOver orders s.periods (is_listed failed) before now r → SomeOpenedRose r before now
-  -- an incoming line that failed gave fewer octets than the call takes of it up to some period, at most a batch after the call's end
+  -- an incoming line that failed gave fewer octets than the call takes of it up to some period, at most a batch after
+  -- the call's end
   pub short : (r : Run) → IsRunOver orders s.periods (is_listed failed) before now r → FailedShort r s.batch (is_listed failed)
-  -- of a call that its lines ended, exactly the octets up to such a period were read of its incoming lines that didn't fail
+  -- of a call that its lines ended, exactly the octets up to such a period were read of its incoming lines that didn't
+  -- fail
   pub read_past : (r : Run) → IsRunOver orders s.periods (is_listed failed) before now r → ReadToEnd r s.batch (is_listed failed) now
   -- if the contents of the incoming lines are known, such a run exists
   pub there : AreTold before → (r : Run) × IsRunOver orders s.periods (is_listed failed) before now r

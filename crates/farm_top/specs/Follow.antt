@@ -7,7 +7,8 @@ use Rattle.block_lines.specs.declared.end.ToolEnd.{ToolEnd}
 use Rattle.block_lines.specs.Command.{status_of}
 use Rattle.ccu_end.specs.Tool.{CleanFollow, FollowCauses, FollowRun}
 
--- A whole command `follow`: what it did, whatever fails, why its status is what it is, and what it leaves if nothing fails.
+-- A whole command `follow`: what it did, whatever fails, why its status is what it is, and what it leaves if nothing
+-- fails.
 pub record FollowEnds (before now : ℕ → Side → LineState) (desk desk' : DeskState) (call want status : ℕ) : Type 0 where
   pub end : ToolEnd
   pub status_is : status ≡ status_of end

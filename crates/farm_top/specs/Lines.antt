@@ -8,7 +8,8 @@ use Rattle.block_lines.specs.Command.{Causes, CommandRuns, Leaves, status_of}
 use Rattle.block_lines.specs.Machines.{Machine}
 use Rattle.trau_submux.specs.Tools.{CleanMerge, MergeCauses, MergeRun}
 
--- A whole command by a block machine: what it did, whatever fails, why its status is what it is, and what it leaves if nothing fails.
+-- A whole command by a block machine: what it did, whatever fails, why its status is what it is, and what it leaves if
+-- nothing fails.
 pub record CommandEnds (M : Machine) (before now : ℕ → Side → LineState) (desk desk' : DeskState) (call status : ℕ) : Type 0 where
   pub end : ToolEnd
   pub status_is : status ≡ status_of end

@@ -1,4 +1,5 @@
--- The command `live`: callers on threads post the periods of drawn calls, and the sums are printed (this project's profile).
+-- The command `live`: callers on threads post the periods of drawn calls, and the sums are printed (this project's
+-- profile).
 use Rattle.std.specs.Prelude.{◌≡◌, ◌⊎◌, ◌<◌, ℕ, codes}
 use Rattle.std.specs.Io.KnownBytes.{Appends}
 use Rattle.trau_io.specs.declared.line.Side.{Side}
@@ -20,8 +21,9 @@ live_of s = record { seed = s.seed; calls = s.calls; periods = s.periods; caller
 abbrev pub CarriesLive : LiveSettings → DeskState → DeskState → ℕ → Type 0
 CarriesLive s desk desk' status = TellsWhole (live_text s.seed s.calls s.periods) desk desk' status ⊎ LacksMemory desk desk' status
 
--- What the command leaves, and why its status is what it is. The text depends only on the seed, the calls and the periods: for
--- each call it has the sums of its outgoing lines, by the definition of the call as a whole, without orders, over the drawn lines.
+-- What the command leaves, and why its status is what it is. The text depends only on the seed, the calls and the
+-- periods: for each call it has the sums of its outgoing lines, by the definition of the call as a whole, without
+-- orders, over the drawn lines.
 pub record LiveEnds (seed calls periods : ℕ) (before now : ℕ → Side → LineState) (desk desk' : DeskState) (status : ℕ) : Type 0 where
   pub known : (status ≡ 0) ⊎ (status ≡ 4) ⊎ (status ≡ 5)
   -- no line of the trunk is used, and nothing is read of the desk

@@ -1,5 +1,5 @@
--- The command `resume`: a mark and the orders after it, the run over the lines from the mark on, and its report (this project's
--- profile).
+-- The command `resume`: a mark and the orders after it, the run over the lines from the mark on, and its report (this
+-- project's profile).
 use Rattle.std.specs.Prelude.{◌≡◌, ◌⊎◌, ℕ, max, List, ◌++◌, codes, decimal, Some, Result, Ok, Err, IsErrOf}
 use Rattle.trau_io.specs.declared.line.Side.{Side}
 use Rattle.trau_io.specs.Lines.{LineState, Rose}
@@ -34,8 +34,8 @@ RefusesMarked (Orders fault) desk desk' status = RefusesOrders fault desk desk' 
 abbrev pub end_after : MarkedOrders → Settings → ℕ
 end_after read s = max read.mark.period s.periods
 
--- The orders are run over the lines from the mark on, and the report is printed, whatever failed. The outgoing lines have the
--- headline, without what was held back, whatever the desk did.
+-- The orders are run over the lines from the mark on, and the report is printed, whatever failed. The outgoing lines
+-- have the headline, without what was held back, whatever the desk did.
 pub record ResumesAndTells (read : MarkedOrders) (s : Settings) (before now : ℕ → Side → LineState) (desk desk' : DeskState) (status : ℕ) : Type 0 where
   pub report : ReportView
   pub resumes : ResumesRun read.orders (pace_of s) read.mark before now report
@@ -43,8 +43,8 @@ pub record ResumesAndTells (read : MarkedOrders) (s : Settings) (before now : �
       HeadlineFrom r read.mark.period (is_listed report.failed) before now
   pub tells : TellsReport report desk desk' status
 
--- The mark isn't that of these lines and orders, and the text says the least call number that differs. A desk that fails while
--- this text goes out doesn't change the status.
+-- The mark isn't that of these lines and orders, and the text says the least call number that differs. A desk that
+-- fails while this text goes out doesn't change the status.
 pub record FindsAndTells (read : MarkedOrders) (s : Settings) (before now : ℕ → Side → LineState) (desk desk' : DeskState) (status : ℕ) : Type 0 where
   pub call : ℕ
   pub finds : FindsDifference read.orders (pace_of s) read.mark before now call

@@ -39,12 +39,13 @@ pub record ReadsTooMuch (desk desk' : DeskState) : Type 0 where
   pub consumed : Consumes desk.to_come desk'.to_come given
   pub long : (length given ≡ 1310721) ⊎ (IsAtEnd desk'.to_come × HasLongOrders given)
 
--- 3: only if a fault of the desk's reading was counted, and always if that count grew. 7: only if the text that was read, or its
--- orders, are too long; if such a text is known, the status is 7, 3 or 5. 2: only if a line that was read isn't in the grammar
--- of the mark or, after a mark, of the orders; if such a text within the limits is known, the status is 2, 3 or 5. With 2, 3
--- and 7 no line was used. 9: the mark isn't that of the run; no outgoing line was used. 4: only if a fault of the desk's writing was
--- counted; if that count grew, the status is 4, 2, 3, 5, 7 or 9. 6: only if a line's fault was counted; if a line's count grew, the
--- status is 6, 4, 5 or 9. 0: only if every line's count is unchanged. 5: out of memory.
+-- 3: only if a fault of the desk's reading was counted, and always if that count grew. 7: only if the text that was
+-- read, or its orders, are too long; if such a text is known, the status is 7, 3 or 5. 2: only if a line that was read
+-- isn't in the grammar of the mark or, after a mark, of the orders; if such a text within the limits is known, the
+-- status is 2, 3 or 5. With 2, 3 and 7 no line was used. 9: the mark isn't that of the run; no outgoing line was used.
+-- 4: only if a fault of the desk's writing was counted; if that count grew, the status is 4, 2, 3, 5, 7 or 9. 6: only
+-- if a line's fault was counted; if a line's count grew, the status is 6, 4, 5 or 9. 0: only if every line's count is
+-- unchanged. 5: out of memory.
 pub record ResumeCauses (before now : ℕ → Side → LineState) (desk desk' : DeskState) (status : ℕ) : Type 0 where
   pub known : (status ≡ 0) ⊎ (status ≡ 2) ⊎ (status ≡ 3) ⊎ (status ≡ 4) ⊎ (status ≡ 5) ⊎ (status ≡ 6) ⊎ (status ≡ 7) ⊎ (status ≡ 9)
   pub read_failed : status ≡ 3 → Rose desk.read_faults desk'.read_faults

@@ -21,8 +21,8 @@ use Rattle.farm_top.specs.FarmEnded.{GainsFront, report_told}
 use Rattle.farm_top.specs.Headline.{HeadlineFrom}
 use Rattle.farm_top.specs.Resume.{differs_text}
 
--- A run of these orders from this mark on that came to its end, whatever failed. It ends at the mark's period or the number of
--- periods asked for, whichever is greater.
+-- A run of these orders from this mark on that came to its end, whatever failed. It ends at the mark's period or the
+-- number of periods asked for, whichever is greater.
 pub record ResumeEnded (mark : MarkView) (orders : List Order) (s : Settings) (before now : ℕ → Side → LineState) (desk desk' : DeskState)
     (status : ℕ) : Type 0 where
   -- the lines that failed, each once: none with status 0, some with 6
@@ -32,14 +32,15 @@ pub record ResumeEnded (mark : MarkView) (orders : List Order) (s : Settings) (b
   -- incoming lines were only read, from the start, and outgoing lines only written
   pub sides : KeepsSides before now
   pub reads : ReadsOn before now
-  -- the outgoing lines have what the run of these orders, over what the lines gave, gives them, without the octets of the periods
-  -- before the mark's
+  -- the outgoing lines have what the run of these orders, over what the lines gave, gives them, without the octets of
+  -- the periods before the mark's
   pub leaves : (r : Run) → IsRunOver orders (max mark.period s.periods) (is_listed failed) before now r → LeavesFrom r mark.period (is_listed failed) before now
   pub headline : (r : Run) → IsRunOver orders (max mark.period s.periods) (is_listed failed) before now r →
       HeadlineFrom r mark.period (is_listed failed) before now
   -- the run to the mark's period has the mark's calls
   pub same_mark : (r : Run) → IsRunOver orders mark.period (is_listed failed) before now r → marked_calls r ≡ mark.calls
-  -- the desk gained exactly the text of the whole run's report, with the lines that failed; with status 4 a proper prefix of it
+  -- the desk gained exactly the text of the whole run's report, with the lines that failed; with status 4 a proper
+  -- prefix of it
   pub text : status ≢ 4 → (r : Run) → IsRunOver orders (max mark.period s.periods) (is_listed failed) before now r →
       Appends desk.written desk'.written (report_told r failed)
   pub front : status ≡ 4 → (r : Run) → IsRunOver orders (max mark.period s.periods) (is_listed failed) before now r →
@@ -49,14 +50,17 @@ pub record ResumeEnded (mark : MarkView) (orders : List Order) (s : Settings) (b
   -- each line that failed is one of a call that the run opened; so with status 6 a fault of such a line was counted
   pub opened : (r : Run) → IsRunOver orders (max mark.period s.periods) (is_listed failed) before now r → OnlyOpenedFail r (is_listed failed)
   pub line_failed : status ≡ 6 → (r : Run) → IsRunOver orders (max mark.period s.periods) (is_listed failed) before now r → SomeOpenedRose r before now
-  -- an incoming line that failed gave fewer octets than the call takes of it up to some period, at most a batch after the call's end
+  -- an incoming line that failed gave fewer octets than the call takes of it up to some period, at most a batch after
+  -- the call's end
   pub short : (r : Run) → IsRunOver orders (max mark.period s.periods) (is_listed failed) before now r → FailedShort r s.batch (is_listed failed)
-  -- of a call that its lines ended, exactly the octets up to such a period were read of its incoming lines that didn't fail
+  -- of a call that its lines ended, exactly the octets up to such a period were read of its incoming lines that didn't
+  -- fail
   pub read_past : (r : Run) → IsRunOver orders (max mark.period s.periods) (is_listed failed) before now r → ReadToEnd r s.batch (is_listed failed) now
   -- if the contents of the incoming lines are known, such runs exist, up to any number of periods
   pub there : AreTold before → (periods : ℕ) → (r : Run) × IsRunOver orders periods (is_listed failed) before now r
 
--- The mark isn't that of the run of these orders up to the mark's period, over what the lines gave. No outgoing line was used.
+-- The mark isn't that of the run of these orders up to the mark's period, over what the lines gave. No outgoing line
+-- was used.
 pub record ResumeDiffers (mark : MarkView) (orders : List Order) (s : Settings) (before now : ℕ → Side → LineState) (desk desk' : DeskState) : Type 0 where
   -- the least call number whose entries differ in mark and run, or that only one of them has
   pub call : ℕ
@@ -69,7 +73,8 @@ pub record ResumeDiffers (mark : MarkView) (orders : List Order) (s : Settings) 
   -- the text was read to its end
   pub all_read : desk'.to_come ≡ Some []
 
--- A line gained these octets in two parts: a prefix of them from `first` to `saved`, and the others from `before` to `now`.
+-- A line gained these octets in two parts: a prefix of them from `first` to `saved`, and the others from `before` to
+-- `now`.
 pub record Together (first saved before now : LineState) (octets : List ℕ) : Type 0 where
   pub front : List ℕ
   pub rest : List ℕ
@@ -77,9 +82,9 @@ pub record Together (first saved before now : LineState) (octets : List ℕ) : T
   pub gained : Appends before.written now.written rest
   pub whole : front ++ rest ≡ octets
 
--- What a run of these orders leaves from the mark on if no line's fault is counted. Together with what the run up to the mark's
--- period leaves, it is what one run writes. The first part is any run up to the mark's period over lines whose incoming ones tell
--- the same: `first` are the lines before it, `saved` those after it.
+-- What a run of these orders leaves from the mark on if no line's fault is counted. Together with what the run up to
+-- the mark's period leaves, it is what one run writes. The first part is any run up to the mark's period over lines
+-- whose incoming ones tell the same: `first` are the lines before it, `saved` those after it.
 pub record JoinsMarked (orders : List Order) (r : Run) (from : ℕ) (before now : ℕ → Side → LineState) : Type 0 where
   pub leaves : LeavesFrom r from none_fails before now
   pub headline : HeadlineFrom r from none_fails before now
@@ -87,8 +92,8 @@ pub record JoinsMarked (orders : List Order) (r : Run) (from : ℕ) (before now 
   -- the run of these orders over the lines of the first part is the whole run, cut at the mark's period
   pub first_part : (first saved : ℕ → Side → LineState) → ((c : ℕ) (s : Side) → IsIncoming s → (first c s).to_come ≡ (before c s).to_come) →
       IsRunOver orders from none_fails first saved (cut_at from r)
-  -- what the first part leaves on an outgoing line of a call that the whole run opens, followed by what was gained here, is what the
-  -- whole run gives it
+  -- what the first part leaves on an outgoing line of a call that the whole run opens, followed by what was gained
+  -- here, is what the whole run gives it
   pub out_together : (first saved : ℕ → Side → LineState) → Leaves (cut_at from r) none_fails first saved → (c : ℕ) → IsOpened r c →
       Together (first c Out) (saved c Out) (before c Out) (now c Out) (out_of_call r c)
   pub down_together : (first saved : ℕ → Side → LineState) → Leaves (cut_at from r) none_fails first saved → (c : ℕ) → IsOpened r c →

@@ -26,8 +26,8 @@ abbrev pub saved_text : List Line → MarkView → List ℕ
 saved_text [] mark = mark_text mark
 saved_text (line ∷ lines) mark = flat_map failed_line (line ∷ lines)
 
--- The orders are run over the lines, and the run's mark or the lines that failed are printed. The outgoing lines have the headline,
--- whatever the desk did.
+-- The orders are run over the lines, and the run's mark or the lines that failed are printed. The outgoing lines have
+-- the headline, whatever the desk did.
 pub record SavesAndTells (orders : List Order) (pace : Pace) (before now : ℕ → Side → LineState) (desk desk' : DeskState) (status : ℕ) : Type 0 where
   pub saved : SavedView
   pub saves : Saves orders pace before now saved

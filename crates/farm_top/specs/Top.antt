@@ -19,8 +19,8 @@ use Rattle.farm_top.specs.Farm.{AllStay, RunsFarm, pace_of}
 use Rattle.farm_top.specs.Resume.{ResumesFarm}
 use Rattle.farm_top.specs.Save.{SavesFarm}
 
--- what is asked for is in its ranges: a run's pace; a drill's calls and periods; a live drill's numbers; the call of a tool; the
--- call and the wanted place of `follow`; the first and the last call of a slot
+-- what is asked for is in its ranges: a run's pace; a drill's calls and periods; a live drill's numbers; the call of a
+-- tool; the call and the wanted place of `follow`; the first and the last call of a slot
 abbrev pub IsInRange : Asked → Type 0
 IsInRange (Run s) = IsPace (pace_of s)
 IsInRange (Save s) = IsPace (pace_of s)

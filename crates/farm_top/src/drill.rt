@@ -5,7 +5,7 @@ ghost use Rattle.farm_run.specs.Pace.{IsPace};
 ghost use Rattle.farm_top.specs.Drill.{CarriesDrill, TellsWhole};
 ghost use Rattle.farm_top.specs.Farm.{pace_of};
 
-use crate::farm::{lines_have_the_headline, no_memory, pace_of};
+use crate::farm::{no_memory, pace_of};
 use crate::status::{DESK_WRITE_FAULT, DONE};
 use command_words::Settings;
 use drill_run::run_drill;
@@ -40,7 +40,7 @@ pub(crate) fn drill_farm<R: Threads + Wait + Sync, D: Desk, G: Gate + Sync>(
     requires pace { IsPace (pace_of settings) }
     ensures { CarriesDrill seed calls settings.periods (D.desk desk.old) (D.desk desk.new) result }
 {
-    lines_have_the_headline();
+    crate::laws::lines_have_the_headline();
     match run_drill(rt, alloc, seed, calls, &pace_of(settings), gate) {
         Ok(text) => tell_whole(desk, text.as_bytes()),
         Err(_) => no_memory(desk),

@@ -1,15 +1,8 @@
 //! The command `run`: reads the orders from the desk, runs them over the lines, and prints the report to the desk.
 
-ghost use Rattle.std.specs.Prelude.{◌≡◌, ℕ, Bool};
-ghost use Rattle.trau_io.specs.declared.line.Side.{Side};
-ghost use Rattle.trau_io.specs.Lines.{LineState};
-ghost use Rattle.trau_orders.specs.Lists.{AreOrders};
-ghost use Rattle.run_spec.specs.Run.{Run as TheRun};
+ghost use Rattle.std.specs.Prelude.{◌≡◌};
 ghost use Rattle.farm_run.specs.Pace.{IsPace};
-ghost use Rattle.farm_run.specs.Resuming.{LeavesFrom};
-ghost use Rattle.farm_run.specs.Runs.{Leaves};
 ghost use Rattle.farm_top.specs.Farm.{EndsWith, LacksMemory, RefusesOrders, RunsFarm, TellsDue, TellsReport, pace_of, status_of_run};
-ghost use Rattle.farm_top.specs.Headline.{Headline, HeadlineFrom};
 
 use crate::status::{
     DESK_READ_FAULT, DESK_WRITE_FAULT, DONE, LINE_FAILED, NO_MEMORY, ORDERS_REFUSED,
@@ -20,9 +13,6 @@ use farm_orders::{OrdersFault, read_orders};
 use farm_report::{Report, write_report};
 use farm_run::{Pace, run};
 use pool_run::Gate;
-use run_calls_spec::{
-    items_are_the_partners_frames, items_go_out_in_order_and_once, lines_are_of_whole_calls,
-};
 use std::alloc::Global;
 use std::sync::Wait;
 use std::thread::Threads;
@@ -90,19 +80,6 @@ pub(crate) fn tell_report<D: Desk>(alloc: Global, report: &Report, desk: &mut D)
     tell_run(desk, text.as_bytes(), &report.failed)
 }
 
-/// A law: what a run leaves on outgoing lines are the lines of whole calls, or the later octets of these, and its bridges hand
-/// over frames.
-pub(crate) fn lines_have_the_headline()
-    ensures whole { (r : TheRun) (fails : ℕ → Side → Bool) (before now : ℕ → Side → LineState) → AreOrders r.orders →
-        Leaves r fails before now → Headline r fails before now }
-    ensures later { (r : TheRun) (from : ℕ) (fails : ℕ → Side → Bool) (before now : ℕ → Side → LineState) → AreOrders r.orders →
-        LeavesFrom r from fails before now → HeadlineFrom r from fails before now }
-{
-    lines_are_of_whole_calls();
-    items_are_the_partners_frames();
-    items_go_out_in_order_and_once();
-}
-
 /// Reads the orders from the desk, runs them over the lines of the trunk, and prints the report.
 pub(crate) fn run_farm<R: Threads + Wait + Sync, T: Trunk, D: Desk, G: Gate + Sync>(
     rt: &R,
@@ -119,7 +96,7 @@ pub(crate) fn run_farm<R: Threads + Wait + Sync, T: Trunk, D: Desk, G: Gate + Sy
         Ok(orders) => orders,
         Err(fault) => return refuse_orders(alloc, fault, desk),
     };
-    lines_have_the_headline();
+    crate::laws::lines_have_the_headline();
     match run(rt, alloc, &pace_of(settings), orders, trunk, gate) {
         Ok(report) => tell_report(alloc, &report, desk),
         Err(_) => no_memory(desk),

@@ -1,14 +1,12 @@
-//! The command `resume`: reads a mark and the orders after it from the desk, runs the orders over the lines from the mark on, and
-//! prints the report to the desk.
+//! The command `resume`: reads a mark and the orders after it from the desk, runs the orders over the lines from the
+//! mark on, and prints the report to the desk.
 
 ghost use Rattle.std.specs.Prelude.{◌≡◌};
 ghost use Rattle.farm_run.specs.Pace.{IsPace};
 ghost use Rattle.farm_top.specs.Farm.{pace_of};
 ghost use Rattle.farm_top.specs.Resume.{RefusesMarked, ResumesFarm, differs_text};
 
-use crate::farm::{
-    lines_have_the_headline, no_memory, pace_of, refuse, refuse_orders, tell_report,
-};
+use crate::farm::{no_memory, pace_of, refuse, refuse_orders, tell_report};
 use crate::status::{MARK_DIFFERS, ORDERS_REFUSED};
 use arrayvec::ArrayString;
 use command_words::Settings;
@@ -47,8 +45,8 @@ fn differs_text(call: u32) -> ArrayString<32>
     text
 }
 
-/// Reads a mark and the orders after it from the desk, runs the orders over the lines of the trunk from the mark on, and prints
-/// the report, or that the mark isn't that of the run.
+/// Reads a mark and the orders after it from the desk, runs the orders over the lines of the trunk from the mark on,
+/// and prints the report, or that the mark isn't that of the run.
 pub(crate) fn resume_farm<R: Threads + Wait + Sync, T: Trunk, D: Desk, G: Gate + Sync>(
     rt: &R,
     alloc: Global,
@@ -64,7 +62,7 @@ pub(crate) fn resume_farm<R: Threads + Wait + Sync, T: Trunk, D: Desk, G: Gate +
         Ok(marked) => marked,
         Err(fault) => return refuse_marked(alloc, fault, desk),
     };
-    lines_have_the_headline();
+    crate::laws::lines_have_the_headline();
     match resume(rt, alloc, &pace_of(settings), &mark, orders, trunk, gate) {
         Ok(Resumed::Ran(report)) => tell_report(alloc, &report, desk),
         Ok(Resumed::Differs(call)) => refuse(desk, differs_text(call).as_bytes(), MARK_DIFFERS),

@@ -6,7 +6,7 @@ ghost use Rattle.farm_run.specs.Pace.{IsPace};
 ghost use Rattle.farm_top.specs.Farm.{TellsRun, pace_of};
 ghost use Rattle.farm_top.specs.Save.{SavesFarm, saved_text};
 
-use crate::farm::{lines_have_the_headline, no_memory, pace_of, refuse_orders, tell_run};
+use crate::farm::{no_memory, pace_of, refuse_orders, tell_run};
 use command_words::Settings;
 use farm_checkpoint::write_mark;
 use farm_orders::read_orders;
@@ -59,7 +59,7 @@ pub(crate) fn save_farm<R: Threads + Wait + Sync, T: Trunk, D: Desk, G: Gate + S
         Ok(orders) => orders,
         Err(fault) => return refuse_orders(alloc, fault, desk),
     };
-    lines_have_the_headline();
+    crate::laws::lines_have_the_headline();
     match save(rt, alloc, &pace_of(settings), orders, trunk, gate) {
         Ok(saved) => tell_saved(alloc, &saved, desk),
         Err(_) => no_memory(desk),

@@ -1,13 +1,13 @@
 //! The statuses.
 
 /// The command came to its end.
-pub(crate) const DONE: u8 = 0;
+pub const DONE: u8 = 0;
 
 /// The words aren't those of a command.
 pub const USAGE: u8 = 1;
 
 /// A line of the orders, or of the mark before them, isn't in its grammar.
-pub(crate) const ORDERS_REFUSED: u8 = 2;
+pub const ORDERS_REFUSED: u8 = 2;
 
 /// The desk failed while the orders, or the mark before them, were read.
 pub(crate) const DESK_READ_FAULT: u8 = 3;
@@ -19,7 +19,7 @@ pub(crate) const DESK_WRITE_FAULT: u8 = 4;
 pub const NO_MEMORY: u8 = 5;
 
 /// A line failed.
-pub(crate) const LINE_FAILED: u8 = 6;
+pub const LINE_FAILED: u8 = 6;
 
 /// The orders are too long, or the mark and the orders together.
 pub(crate) const ORDERS_TOO_LONG: u8 = 7;

@@ -1,4 +1,5 @@
--- For crates above: the decoder's memory stands for all frames since its reset (`home-stands`, `frame-stands`); a frame's 160 samples are words.
+-- For crates above: the decoder's memory stands for all frames since its reset (`home-stands`, `frame-stands`); a
+-- frame's 160 samples are words.
 -- The four blocks of a frame.
 use Rattle.std.proofs.Common.{◌≡◌, ℕ, ◌+◌, suc, ℤ, pos, negsuc, ◌*ℤ◌, ◌+ℤ◌, ◌≤ℤ◌, FitsSigned, w16, All, List, [], ◌∷◌, ◌++◌, length, map, take, refl, sym, ◌∙◌}
 use Rattle.std.proofs.Common.{ap, subst, arith, length-append}

@@ -1,4 +1,5 @@
--- The decoded list: the samples of all frames from the home state (GSM 06.10, section 4.3). A history has the newest frame first.
+-- The decoded list: the samples of all frames from the home state (GSM 06.10, section 4.3). A history has the newest
+-- frame first.
 use Rattle.std.specs.Prelude.{ℤ, pos, List, [], ◌∷◌, ◌++◌, map, reverse}
 use Rattle.trau_params.specs.Fields.{Fields}
 use Rattle.fr_long.specs.Synthesis.{LtpBlock}

@@ -1,4 +1,5 @@
--- The encoded list: the encodings of all frames of samples from the home state (GSM 06.10, section 4.2). A history has the newest frame first.
+-- The encoded list: the encodings of all frames of samples from the home state (GSM 06.10, section 4.2). A history has
+-- the newest frame first.
 use Rattle.std.specs.Prelude.{ℤ, List, [], ◌∷◌, ◌++◌, reverse}
 use Rattle.trau_params.specs.Fields.{Fields, fields_of}
 use Rattle.trau_params.specs.declared.params.Params.{Params}
@@ -9,7 +10,8 @@ use Rattle.fr_lpc.specs.Ratios.{ratio_codes, ratios_of_frame}
 use Rattle.fr_short.specs.Analysis.{SampleFrame, sample_frame, analysis_of}
 use Rattle.fr_encoder.specs.Blocks.{BlockFields, block_fields, four_coded_blocks}
 
--- the encoding of a frame: its fields, the log area ratios and the blocks' maxima before coding, and the peak of its preprocessed samples
+-- the encoding of a frame: its fields, the log area ratios and the blocks' maxima before coding, and the peak of its
+-- preprocessed samples
 pub record Encoded : Type 0 where
   pub fields : Fields
   pub lar : List ℤ

@@ -1,5 +1,7 @@
 //! The full rate encoder (GSM 06.10, section 4.2): 160 samples to a frame of parameters.
 //!
+//! Layer: The full rate codec.
+//!
 //! It takes the 160 samples of a period of 20 ms, 16 bits each, expanded from a line's octets, ignores the three lowest
 //! bits of each (of which mu-law uses one), and gives the parameters of a speech frame (`trau_params`). A frame goes
 //! through the stages of the standard: preprocessing (`fr_pre`), linear prediction (`fr_lpc`), short-term analysis

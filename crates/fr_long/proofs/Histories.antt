@@ -1,4 +1,5 @@
--- For crates above: long-term synthesis gives, block by block, the residual of all blocks so far (`synthesised-Stands`).
+-- For crates above: long-term synthesis gives, block by block, the residual of all blocks so far
+-- (`synthesised-Stands`).
 -- The memory of long-term synthesis goes from block to block as all blocks from home ask.
 use Rattle.std.proofs.Common.{◌≡◌, ℕ, ℤ, ◌+◌, ◌-◌, ◌≤◌, pos, if◌then◌else◌, List, [], ◌∷◌, ◌++◌, length, drop, map, get_or, refl, sym, ap, ◌∙◌, arith}
 use Rattle.std.specs.List.{range_with_len}

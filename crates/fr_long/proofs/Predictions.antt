@@ -1,4 +1,5 @@
--- For crates above: the last 120 residuals predict a block as all earlier ones do (`by_history`), also after one block more (`one_update`).
+-- For crates above: the last 120 residuals predict a block as all earlier ones do (`by_history`), also after one block
+-- more (`one_update`).
 -- A block has one prediction, and that by the last 120 residuals is that by all earlier residuals.
 use Rattle.std.proofs.Common.{◌≡◌, ℕ, ℤ, ◌-◌, ◌≤◌, pos, ◌+ℤ◌, int_lt, if◌then◌else◌, List, ◌++◌, length, drop, map, fold, replicate, refl, sym, ap, subst, ◌∙◌}
 use Rattle.std.proofs.Common.{inl, inr, ⊎_elim, append_assoc, arith}

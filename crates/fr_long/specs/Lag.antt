@@ -7,7 +7,8 @@ use Rattle.std.specs.Option.{unwrap_or}
 use Rattle.trau_num.specs.Num.{l_mult_of, entry}
 use Rattle.fr_long.specs.Synthesis.{sample_before}
 
--- the correlation of a scaled block with the 40 residuals at a lag: the sum over k = 0 to 39 of L_mult(wt[k], dp[k - lag])
+-- the correlation of a scaled block with the 40 residuals at a lag: the sum over k = 0 to 39 of L_mult(wt[k], dp[k -
+-- lag])
 unfoldable pub correlation_of : List ℤ → List ℤ → ℕ → ℤ
 correlation_of wt earlier lag = fold ◌+ℤ◌ (pos 0) (map (λ k. l_mult_of (entry wt k) (sample_before earlier lag k)) (range_with_len 0 40))
 

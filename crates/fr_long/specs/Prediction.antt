@@ -1,4 +1,5 @@
--- The prediction of a block, and the residual that is reconstructed from it (GSM 06.10, sections 4.2.11, 4.2.12 and 4.2.18).
+-- The prediction of a block, and the residual that is reconstructed from it (GSM 06.10, sections 4.2.11, 4.2.12 and
+-- 4.2.18).
 use Rattle.std.specs.Prelude.{ℕ, ◌-◌, ◌≡◌, ℤ, List, map}
 use Rattle.fr_long.specs.Synthesis.{sample_before}
 use Rattle.std.specs.List.{range_with_len}

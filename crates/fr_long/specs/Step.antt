@@ -1,4 +1,5 @@
--- One block, from the memory before it: synthesis (GSM 06.10, section 4.3.2), and the residuals that the encoder keeps (section 4.2.18).
+-- One block, from the memory before it: synthesis (GSM 06.10, section 4.3.2), and the residuals that the encoder keeps
+-- (section 4.2.18).
 use Rattle.std.specs.Prelude.{ℤ, List, ◌++◌, drop, if◌then◌else◌}
 use Rattle.fr_long.specs.Synthesis.{LtpBlock, is_lag, residual_after}
 use Rattle.fr_long.specs.Memory.{LtpMemory}

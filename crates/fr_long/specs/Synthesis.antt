@@ -1,4 +1,5 @@
--- Long-term synthesis of all blocks from the home state (GSM 06.10, section 4.3.2). A history has the newest block first.
+-- Long-term synthesis of all blocks from the home state (GSM 06.10, section 4.3.2). A history has the newest block
+-- first.
 use Rattle.std.specs.Prelude.{ℕ, ◌+◌, ◌-◌, Bool, ◌&&◌, nat_le, if◌then◌else◌, ℤ, pos, List, [], ◌∷◌, ◌++◌, length, map, replicate}
 use Rattle.std.specs.List.{range_with_len}
 use Rattle.trau_num.specs.Num.{add_of, mult_r_of, entry}

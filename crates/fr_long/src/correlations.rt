@@ -1,9 +1,9 @@
 //! The correlations of a block with the residuals at each lag (GSM 06.10, section 4.2.11).
 //!
 //! The search for a lag needs 81 times 40 products, more than the rest of the encoder. So correlations are summed in
-//! lanes: 16 products at a time, added by pairs (the processor has an instruction for that on words of 16 bits, or needs two
-//! if a vector has eight words), and eight lags at a time, whose lanes are then added by pairs too. The factors are so small
-//! that no sum of 40 products leaves 32 bits, in whatever order they are added.
+//! lanes: 16 products at a time, added by pairs (the processor has an instruction for that on words of 16 bits, or
+//! needs two if a vector has eight words), and eight lags at a time, whose lanes are then added by pairs too. The
+//! factors are so small that no sum of 40 products leaves 32 bits, in whatever order they are added.
 
 ghost use Rattle.std.specs.Prelude.{◌≡◌, ℕ, ◌+◌, ◌-◌, ◌<◌, ◌≤◌, ◌++◌, pos, ◌+ℤ◌, ◌*ℤ◌, unsigned_abs, length, fold, FitsSigned};
 ghost use Rattle.std.specs.Int.{w16, w32};
@@ -56,9 +56,9 @@ pub(crate) fn correlations(wt: &[i16; 40], earlier: &[i16; 120]) -> [i32; 81]
     all
 }
 
-// The correlations at eight lags, from `120 - start` on. The residuals of the first lag begin at place `start`, those of each
-// further lag one place earlier: so all places are `start` less a constant, which costs no instruction. The sums are doubled
-// here, in one vector: so all eight are stored at once, and can be read at once without waiting.
+// The correlations at eight lags, from `120 - start` on. The residuals of the first lag begin at place `start`, those
+// of each further lag one place earlier: so all places are `start` less a constant, which costs no instruction. The
+// sums are doubled here, in one vector: so all eight are stored at once, and can be read at once without waiting.
 //
 // It isn't inlined: in a loop over the lags, the compiler would widen the block once before the loop, and would no
 // longer find products of 16 bits.

@@ -1,5 +1,7 @@
 //! Long-term prediction of the full rate codec (GSM 06.10, sections 4.2.11, 4.2.12, 4.2.18 and 4.3.2).
 //!
+//! Layer: The full rate codec.
+//!
 //! Long-term prediction works between short-term filtering and pulse coding: it predicts a block of 40 samples of the
 //! residual as the reconstructed residual a lag of 40 to 120 samples earlier, times a gain of 2 bits.
 //!

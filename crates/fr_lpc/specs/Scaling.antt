@@ -11,7 +11,8 @@ AreWithin bound xs = (i : ℕ) → i < length xs → unsigned_abs (entry xs i) �
 unfoldable pub peak_of : List ℤ → ℤ
 peak_of s = fold int_max (pos 0) (map abs_of s)
 
--- scalauto, by smax: the number of places by which the samples are shifted down; `-` of natural numbers gives at least 0
+-- scalauto, by smax: the number of places by which the samples are shifted down; `-` of natural numbers gives at least
+-- 0
 unfoldable pub scaling_of_peak : ℕ → ℕ
 scaling_of_peak smax = if smax == 0 then 0 else 4 - norm_of (smax * 2 ^ 16)
 

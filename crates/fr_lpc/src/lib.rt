@@ -1,5 +1,7 @@
 //! Linear prediction of the full rate codec's encoder (GSM 06.10, sections 4.2.4 to 4.2.7).
 //!
+//! Layer: The full rate codec.
+//!
 //! The encoder's stage after preprocessing: it takes the 160 preprocessed samples of a frame (16 bits, a period of 20
 //! ms), finds the eight log area ratios of the filter that predicts them, and codes these. The scaling around the
 //! autocorrelation rounds away low bits of a loud frame's samples, and short-term analysis takes the rounded samples.

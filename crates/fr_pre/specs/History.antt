@@ -1,4 +1,5 @@
--- The preprocessed list of a whole list of samples from the home state (GSM 06.10, sections 4.2.1 to 4.2.3). A history has the newest frame first.
+-- The preprocessed list of a whole list of samples from the home state (GSM 06.10, sections 4.2.1 to 4.2.3). A history
+-- has the newest frame first.
 use Rattle.std.specs.Prelude.{ℤ, List, [], ◌∷◌, ◌++◌}
 use Rattle.fr_pre.specs.Memory.{PreMemory, home_memory}
 use Rattle.fr_pre.specs.Step.{preprocessed_frame}

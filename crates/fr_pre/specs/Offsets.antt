@@ -1,5 +1,5 @@
--- Offset compensation as a sequence of offsets (GSM 06.10, section 4.2.2): L_z2 is 2^15 times the downscaled sample plus an offset, which slowly
--- follows the mean of the samples, with the opposite sign.
+-- Offset compensation as a sequence of offsets (GSM 06.10, section 4.2.2): L_z2 is 2^15 times the downscaled sample
+-- plus an offset, which slowly follows the mean of the samples, with the opposite sign.
 use Rattle.std.specs.Prelude.{◌≡◌, ℕ, ◌+◌, ◌<◌, ◌≤◌, ◌^◌, ℤ, pos, ◌+ℤ◌, ◌-ℤ◌, ◌*ℤ◌, List, ◌∷◌, unsigned_abs}
 use Rattle.trau_num.specs.Num.{clamp16, floor_shr, entry}
 use Rattle.fr_pre.specs.Preprocessing.{downscaled, preemphasised}

@@ -6,8 +6,8 @@ use Rattle.trau_num.specs.Num.{clamp16, floor_shr, add_of, mult_r_of, l_add_of}
 unfoldable pub downscaled : ℤ → ℤ
 downscaled x = floor_shr x 3 *ℤ pos 4
 
--- L_z2 after a sample that is s1 above the one before it: 32735 / 2^15 of L_z2, computed from its high part msp and its low part lsp, plus 2^15 times
--- s1
+-- L_z2 after a sample that is s1 above the one before it: 32735 / 2^15 of L_z2, computed from its high part msp and its
+-- low part lsp, plus 2^15 times s1
 unfoldable pub next_l_z2 : ℤ → ℤ → ℤ
 next_l_z2 l_z2 s1 =
     let msp = floor_shr l_z2 15 in

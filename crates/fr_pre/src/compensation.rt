@@ -25,8 +25,8 @@ pub(crate) fn sum(z1: i16, offset: i32) -> i32
     i32::from(z1) * 32768 + offset
 }
 
-// The term of a downscaled sample in 2^15 times the next offset, with the half for rounding; 1081344 is 33 times 2^15. It
-// doesn't depend on the offset, so an offset follows from the one before by a product, a sum and a shift.
+// The term of a downscaled sample in 2^15 times the next offset, with the half for rounding; 1081344 is 33 times 2^15.
+// It doesn't depend on the offset, so an offset follows from the one before by a product, a sum and a shift.
 fn pull(so: i16) -> i64
     requires { IsDownscaled so }
     ensures value { result ≡ pos 16384 -ℤ so *ℤ pos 1081344 }

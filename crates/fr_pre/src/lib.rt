@@ -1,5 +1,7 @@
 //! Preprocessing of the full rate codec (GSM 06.10, sections 4.2.1 to 4.2.3): the encoder's first stage.
 //!
+//! Layer: The full rate codec.
+//!
 //! It takes the 160 samples of a period of 20 ms as a line gives them, left-justified in 16 bits: 13 bits from A-law,
 //! 14 from mu-law, of which the lowest is ignored. It prepares them for linear prediction: they are downscaled by two,
 //! a slow high-pass filter removes any constant offset, and preemphasis raises the higher frequencies.

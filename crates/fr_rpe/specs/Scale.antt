@@ -10,7 +10,8 @@ factors = pos 18431 ∷ pos 20479 ∷ pos 22527 ∷ pos 24575 ∷ pos 26623 ∷ 
 abbrev pub factor_of : ℕ → ℤ
 factor_of mantissa = entry factors mantissa
 
--- While the mantissa is at most 7, and at most n times, it is replaced by 2 * mantissa + 1 and the exponent falls by one. Then 8 is subtracted.
+-- While the mantissa is at most 7, and at most n times, it is replaced by 2 * mantissa + 1 and the exponent falls by
+-- one. Then 8 is subtracted.
 abbrev pub normalised_scale : ℕ → ℤ → ℕ → Scale
 normalised_scale zero exponent mantissa = record { exponent = exponent; mantissa = mantissa - 8 }
 normalised_scale (suc n) exponent mantissa =

@@ -1,5 +1,7 @@
 //! Regular pulse coding of the full rate codec (GSM 06.10, sections 4.2.13 to 4.2.17 and 4.3.1).
 //!
+//! Layer: The full rate codec.
+//!
 //! The remainder of a block of 40 samples after long-term prediction is coded as thirteen pulses, three samples apart,
 //! at one of four grid positions: the block's maximum (6 bits), and each pulse's share of it (3 bits). `encode_block`
 //! finds these parameters. `decode_block` reconstructs the block: in the encoder for its own long-term prediction, in

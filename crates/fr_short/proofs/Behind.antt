@@ -137,7 +137,8 @@ same_words xs ys p q e =
 
 -- ---- one sample
 
--- the lanes that are stored, and the word that comes out of the first section, from what the second shuffle of `pass` gives, last lane first
+-- the lanes that are stored, and the word that comes out of the first section, from what the second shuffle of `pass`
+-- gives, last lane first
 pub moved : (xs ys : List ℤ) → EightWords xs → EightWords ys →
     (to_z w16 (get_or (map (of_z w16) xs ++ map (of_z w16) ys) 15 0) ∷ to_z w16 (get_or (map (of_z w16) xs ++ map (of_z w16) ys) 7 0) ∷
     to_z w16 (get_or (map (of_z w16) xs ++ map (of_z w16) ys) 6 0) ∷ to_z w16 (get_or (map (of_z w16) xs ++ map (of_z w16) ys) 5 0) ∷

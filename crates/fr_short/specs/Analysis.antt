@@ -1,10 +1,12 @@
--- Short-term analysis (GSM 06.10, section 4.2.10): one frame from the memory before it, and all frames from the home state.
+-- Short-term analysis (GSM 06.10, section 4.2.10): one frame from the memory before it, and all frames from the home
+-- state.
 use Rattle.std.specs.Prelude.{ℕ, ◌+◌, ℤ, pos, List, [], ◌∷◌, replicate}
 use Rattle.trau_num.specs.Num.{add_of, mult_r_of}
 use Rattle.fr_short.specs.Ratios.{decoded_ratios}
 use Rattle.fr_short.specs.Reflection.{coefficients_at}
 
--- d and sav through the sections, from first to last: the d that the last gives, and the sav that each section keeps as its u
+-- d and sav through the sections, from first to last: the d that the last gives, and the sav that each section keeps as
+-- its u
 abbrev pub analysis_lattice : List ℤ → List ℤ → ℤ → ℤ → ℤ × List ℤ
 analysis_lattice [] us d sav = (d, [])
 analysis_lattice (r ∷ rs) [] d sav = (d, [])
@@ -12,7 +14,8 @@ analysis_lattice (r ∷ rs) (u ∷ us) d sav =
     let beyond = analysis_lattice rs us (add_of d (mult_r_of r u)) (add_of u (mult_r_of r d)) in
     (beyond.0, sav ∷ beyond.1)
 
--- the samples of a frame from sample k on, with the coefficients at each sample: the residual, and the sections at the end
+-- the samples of a frame from sample k on, with the coefficients at each sample: the residual, and the sections at the
+-- end
 unfoldable pub analysed_samples : (ℕ → List ℤ) → ℕ → List ℤ → List ℤ → List ℤ × List ℤ
 analysed_samples rs k us [] = ([], us)
 analysed_samples rs k us (s ∷ ss) =

@@ -1,10 +1,12 @@
--- Short-term synthesis (GSM 06.10, section 4.3.4): one frame from the memory before it, and all frames from the home state.
+-- Short-term synthesis (GSM 06.10, section 4.3.4): one frame from the memory before it, and all frames from the home
+-- state.
 use Rattle.std.specs.Prelude.{ℕ, ◌+◌, ℤ, pos, List, [], ◌∷◌, replicate, take}
 use Rattle.trau_num.specs.Num.{add_of, mult_r_of, sub_of}
 use Rattle.fr_short.specs.Ratios.{decoded_ratios}
 use Rattle.fr_short.specs.Reflection.{coefficients_at}
 
--- a sample through the sections, from last to first: the sample that the first gives, and the value that each section stores
+-- a sample through the sections, from last to first: the sample that the first gives, and the value that each section
+-- stores
 abbrev pub synthesis_lattice : List ℤ → List ℤ → ℤ → ℤ × List ℤ
 synthesis_lattice [] vs s = (s, [])
 synthesis_lattice (r ∷ rs) [] s = (s, [])
@@ -17,7 +19,8 @@ synthesis_lattice (r ∷ rs) (v ∷ vs) s =
 abbrev pub sections_after : ℤ × List ℤ → List ℤ
 sections_after x = take 8 (x.0 ∷ x.1)
 
--- the residual of a frame from sample k on, with the coefficients at each sample: the samples, and the sections at the end
+-- the residual of a frame from sample k on, with the coefficients at each sample: the samples, and the sections at the
+-- end
 unfoldable pub filtered_samples : (ℕ → List ℤ) → ℕ → List ℤ → List ℤ → List ℤ × List ℤ
 filtered_samples rs k vs [] = ([], vs)
 filtered_samples rs k vs (d ∷ ds) =

@@ -1,5 +1,7 @@
 //! Short-term filters of the full rate codec (GSM 06.10, sections 4.2.8 to 4.2.10 and 4.3.3 to 4.3.5).
 //!
+//! Layer: The full rate codec.
+//!
 //! In the encoder, analysis takes a frame's preprocessed samples (160 of 16 bits, a period of 20 ms) and the eight
 //! codes of its log area ratios, and gives the residual for long-term prediction. In the decoder, synthesis takes such
 //! codes and the residual from long-term synthesis, and gives the samples, on request de-emphasised. In both, the

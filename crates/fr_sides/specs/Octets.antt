@@ -40,8 +40,8 @@ pub record HeardIn (kind : ℕ) (taf : Bool) (octets : List ℕ) (y : Heard) : T
   pub carried : CarriesIf octets frame
   pub heard : y ≡ heard_by kind taf (option_map fields_of frame)
 
--- The samples x and the memory `after` are those of a period of this kind with these octets and the memory `before`, and `sounds` says whether the
--- call isn't quiet. After any past they are those of the past with this period.
+-- The samples x and the memory `after` are those of a period of this kind with these octets and the memory `before`,
+-- and `sounds` says whether the call isn't quiet. After any past they are those of the past with this period.
 pub record ReceivedOctets (kind : ℕ) (taf : Bool) (octets : List ℕ) (before : ReceiverMemory) (x : List ℤ) (after : ReceiverMemory) (sounds : Bool) : Type 0 where
   pub heard : Heard
   pub brought : HeardIn kind taf octets heard

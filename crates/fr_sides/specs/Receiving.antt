@@ -1,5 +1,5 @@
--- The receive side of a call (GSM 06.11, GSM 06.12 and GSM 06.31; the numbers are this project's profile): one period, and what it gives after a
--- history. Histories have the newest period first.
+-- The receive side of a call (GSM 06.11, GSM 06.12 and GSM 06.31; the numbers are this project's profile): one period,
+-- and what it gives after a history. Histories have the newest period first.
 use Rattle.std.specs.Prelude.{ℕ, ℤ, pos, Bool, true, false, if◌then◌else◌, List, [], ◌∷◌, map, replicate}
 use Rattle.trau_params.specs.Fields.{Fields}
 use Rattle.fr_decoder.specs.Memory as decoder
@@ -68,7 +68,8 @@ abbrev pub decoded_stretch : ℕ → List ReceiverPeriod → List Fields
 decoded_stretch seed [] = []
 decoded_stretch seed (t ∷ past) = if t.handed then [] else stretch_with (effective_now seed (t ∷ past)) (decoded_stretch seed past)
 
--- the samples of the newest frame of a stretch, decoded from the reset state over the whole stretch; zeros if there is none
+-- the samples of the newest frame of a stretch, decoded from the reset state over the whole stretch; zeros if there is
+-- none
 abbrev pub stretch_samples : List Fields → List ℤ
 stretch_samples [] = no_samples
 stretch_samples (p ∷ before) = samples_of p before

@@ -1,5 +1,5 @@
--- The transmit side of a call (GSM 06.10 and GSM 06.31; the numbers are this project's profile): one period, and what is sent after a history.
--- Histories have the newest period first.
+-- The transmit side of a call (GSM 06.10 and GSM 06.31; the numbers are this project's profile): one period, and what
+-- is sent after a history. Histories have the newest period first.
 use Rattle.std.specs.Prelude.{ℤ, Bool, List, [], ◌∷◌, map}
 use Rattle.fr_encoder.specs.Encoded.{encoding_of}
 use Rattle.fr_encoder.specs.Step.{encoded_frame}

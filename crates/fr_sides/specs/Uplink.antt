@@ -1,5 +1,5 @@
--- The 40 octets of an uplink frame for a period's frame of 33 octets, its kind and TAF, and back (this project's profile, modelled on GSM 08.60 and
--- GSM 06.31).
+-- The 40 octets of an uplink frame for a period's frame of 33 octets, its kind and TAF, and back (this project's
+-- profile, modelled on GSM 08.60 and GSM 06.31).
 use Rattle.std.specs.Prelude.{◌≡◌, ℕ, Bool, false, if◌then◌else◌, ◌==◌, Option, Some, None, option_map, List, replicate}
 use Rattle.trau_bits.specs.Bits.{bits_of}
 use Rattle.trau_params.specs.declared.params.Params.{Params}
@@ -26,7 +26,8 @@ heard_in_uplink bits = let w = words_in bits in heard_frame w.kind w.class w.taf
 abbrev pub up_kind : ℕ → Kind
 up_kind kind = if kind == 3 then Idle else Speech
 
--- its class: a frame of kind 0 is good, one of kind 1 a silence descriptor; all else is unusable, and so is a period without a frame
+-- its class: a frame of kind 0 is good, one of kind 1 a silence descriptor; all else is unusable, and so is a period
+-- without a frame
 abbrev pub up_class : ℕ → Option Fields → Class
 up_class kind None = Unusable
 up_class kind (Some p) = if kind == 0 then Good else if kind == 1 then Sid else Unusable
@@ -50,7 +51,8 @@ up_words kind taf frame = record {
   d = up_data kind frame;
 }
 
--- the 40 octets are those of the uplink frame for this frame of 33 octets; they carry the sync pattern, and say this frame
+-- the 40 octets are those of the uplink frame for this frame of 33 octets; they carry the sync pattern, and say this
+-- frame
 pub record WrittenUplink (frame : List ℕ) (kind : ℕ) (taf : Bool) (octets : List ℕ) : Type 0 where
   pub given : Option Params
   pub carried : CarriesIf frame given

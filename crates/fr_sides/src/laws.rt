@@ -32,8 +32,8 @@ pub fn written_uplink_is_read(frame: &[u8; 33], kind: u32, taf: bool) -> Option<
 {
     let read = read_uplink(&write_uplink(frame, kind, taf))?;
     let again = read.frame;
-    are_octets(&again);
-    are_octets(frame);
+    crate::laws::are_octets(&again);
+    crate::laws::are_octets(frame);
     Some(read)
 }
 
@@ -45,7 +45,7 @@ pub fn written_downlink_is_read(frame: &[u8; 33], kind: u32) -> Option<DownlinkF
 {
     let read = read_downlink(&write_downlink(frame, kind))?;
     let again = read.frame;
-    are_octets(&again);
-    are_octets(frame);
+    crate::laws::are_octets(&again);
+    crate::laws::are_octets(frame);
     Some(read)
 }

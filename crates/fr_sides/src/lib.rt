@@ -1,6 +1,8 @@
 //! The two sides of a call by frames of 33 octets, for a program that has no TRAU: the C library exports them
 //! (`trau_c`).
 //!
+//! Layer: Both sides of a call by themselves.
+//!
 //! The receive side (GSM 06.11, 06.12 and 06.31) takes what each period of 20 ms brings, and gives 160 samples, or in a
 //! bridge the frame that is handed to the partner. The transmit side (GSM 06.10 and 06.31) takes 160 samples, and gives
 //! the frame that is sent. Both are made of the parts that process a call's lines (`rx_handler`, `fr_decoder`,

@@ -31,9 +31,10 @@ impl Sender {
         }
     }
 
-    /// Encodes the 160 samples of a period, 13 bits left-justified in 16. Returns the frame that is sent for them, and SP,
-    /// which is true for speech and false for a silence descriptor. With `dtx` off, each frame is speech. With `dtx` on, a
-    /// frame whose peak after preprocessing is below `level` is inactive, and descriptors are sent in a pause (`tx_dtx`).
+    /// Encodes the 160 samples of a period, 13 bits left-justified in 16. Returns the frame that is sent for them, and
+    /// SP, which is true for speech and false for a silence descriptor. With `dtx` off, each frame is speech. With
+    /// `dtx` on, a frame whose peak after preprocessing is below `level` is inactive, and descriptors are sent in a
+    /// pause (`tx_dtx`).
     pub fn send(&mut self, x: &[i16; 160], level: i16, dtx: bool) -> (Params, bool)
         ensures step { sent_next (sender_memory self.old) (sender_period x.now level dtx) ≡ (sent_frame result.0 result.1, sender_memory self.new) }
 

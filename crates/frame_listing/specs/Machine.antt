@@ -11,8 +11,9 @@ use Rattle.block_lines.specs.Machines.{Machine}
 use Rattle.frame_listing.specs.declared.listing.Listing.{Listing}
 use Rattle.frame_listing.specs.Texts.{line_of, listed}
 
--- It takes every period of 40 octets, and less than a period may be left. It writes to no line, so the side `to` means nothing. It
--- prints a line of text for each yield, and at the end how many yields there were and how many octets are left.
+-- It takes every period of 40 octets, and less than a period may be left. It writes to no line, so the side `to` means
+-- nothing. It prints a line of text for each yield, and at the end how many yields there were and how many octets are
+-- left.
 abbrev pub frames_machine : Machine
 frames_machine = record {
   shape = record { octets = 40; from = Up; lines = 0; to = Down };
@@ -33,12 +34,14 @@ pub record Lists (sync : SyncMemory) (yields : ℕ) (periods : List (List ℕ)) 
 abbrev pub ListingStands : Listing → List (List ℕ) → Type 0
 ListingStands l periods = Lists l.sync l.yields periods
 
--- what is printed of these periods, whatever octets are left: a line of text for each of these yields, and at the end their number
+-- what is printed of these periods, whatever octets are left: a line of text for each of these yields, and at the end
+-- their number
 pub record PrintsYields (periods : List (List ℕ)) (ys : List Yield) : Type 0 where
   pub lines : (rest : List ℕ) → frames_machine.printed periods rest ≡ flat_map line_of ys
   pub number : (rest : List ℕ) → frames_machine.done_text periods rest
       ≡ codes "frames " ++ (decimal (length ys) ++ (codes " left " ++ (decimal (length rest) ++ codes "\n")))
 
--- The yields that are printed are all yields of the periods' bits as one list: whatever list of yields those bits have, it is printed.
+-- The yields that are printed are all yields of the periods' bits as one list: whatever list of yields those bits have,
+-- it is printed.
 abbrev pub PrintsAllYields : Type 0
 PrintsAllYields = (periods : List (List ℕ)) (ys : List Yield) → ArePeriods periods → Yields (all_bits periods) ys → PrintsYields periods ys

@@ -7,7 +7,8 @@ use block_lines::{BlockMachine, Shape, left_line};
 use frame_sync::FrameSync;
 use trau_io::Side;
 
-/// The block machine of `frames`: the search after all periods so far, the number of its yields, and the text for the last period.
+/// The block machine of `frames`: the search after all periods so far, the number of its yields, and the text for the
+/// last period.
 #[derive(Drop)]
 pub struct Listing {
     sync: FrameSync,

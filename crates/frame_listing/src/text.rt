@@ -48,7 +48,8 @@ fn place(found: &Yield) -> u64
     }
 }
 
-/// Writes the line of text of a yield, as `325 good`, to an empty text: its place in bits from the line's start, and what was found there.
+/// Writes the line of text of a yield, as `325 good`, to an empty text: its place in bits from the line's start, and
+/// what was found there.
 #[tactic(auto, unfolding(crate::specs::Texts::line_of))]
 pub(crate) fn write_line(found: &Yield, text: &mut ArrayString<64>)
     requires frame { CarriesFrame found.now }

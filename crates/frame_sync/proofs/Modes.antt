@@ -1,4 +1,5 @@
--- The mode of the search by the yields so far, and what it gives next: the definition of all yields, met by the machine.
+-- The mode of the search by the yields so far, and what it gives next: the definition of all yields, met by the
+-- machine.
 use Rattle.std.proofs.Common.{◌≡◌, ℕ, zero, suc, ◌+◌, ◌<◌, ◌≤◌, Bool, true, false, List, [], ◌∷◌, ◌++◌, append_assoc, length, reverse, refl, sym, ap, ◌∙◌}
 use Rattle.std.proofs.Common.{subst, arith, inl, inr}
 use Rattle.std.proofs.lemmas.Bool.{cases_eq, eq-eqb, ne_eqb, lt-leb, le-leb}

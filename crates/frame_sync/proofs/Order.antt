@@ -1,4 +1,5 @@
--- For crates above: the yields of periods, oldest first, are all yields of their bits (`all_yields-are`), one of each period (`filter-yields`).
+-- For crates above: the yields of periods, oldest first, are all yields of their bits (`all_yields-are`), one of each
+-- period (`filter-yields`).
 use Rattle.std.proofs.Common.{◌≡◌, ℕ, suc, ◌*◌, ◌<◌, ◌≤◌, true, false, List, [], ◌∷◌, ◌++◌, length, length-append, get_or, filter, reverse, Option, Some, None}
 use Rattle.std.proofs.Common.{IfSome, option_to_list, refl, sym, ap, ◌∙◌, subst, arith, inl, inr, ◌⊎◌}
 use Rattle.std.specs.List.{flat_map}

@@ -1,4 +1,5 @@
--- For crates above: after one more period the search's memory stands for all periods, and yields as all their bits do (`stands-next`).
+-- For crates above: after one more period the search's memory stands for all periods, and yields as all their bits do
+-- (`stands-next`).
 -- One period more, after any past.
 use Rattle.std.proofs.Common.{◌≡◌, ℕ, suc, ◌+◌, ◌-◌, ◌*◌, ◌<◌, ◌≤◌, List, [], ◌∷◌, ◌++◌, length, length-append, get_or, Option, IfSome, refl, sym, ap, ◌∙◌}
 use Rattle.std.proofs.Common.{subst, arith, inl, inr}

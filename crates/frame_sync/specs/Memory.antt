@@ -30,7 +30,7 @@ abbrev pub misses_of : Mode → ℕ
 misses_of (Hunting low) = 0
 misses_of (Locked next misses) = misses
 
--- the mode fits a line of `base` bits so far: the search hunts from `base` or an earlier place on, or the frame that is due begins at `base` or
--- before and ends in the next period; the misses haven't ended the lock
+-- the mode fits a line of `base` bits so far: the search hunts from `base` or an earlier place on, or the frame that is
+-- due begins at `base` or before and ends in the next period; the misses haven't ended the lock
 abbrev pub IsNear : ℕ → Mode → Type 0
 IsNear base mode = (low_of mode ≤ base) × (base < high_of base mode) × (misses_of mode < misses_to_hunt)

@@ -34,7 +34,8 @@ abbrev pub yield_due : (ℕ → ℕ) → ℕ → ℕ → Bool → Option Yield �
 yield_due line next misses true = (Some (Frame next (frame_at line next)), Locked (next + 320) 0)
 yield_due line next misses false = (Some (Miss next), after_miss next misses)
 
--- the yield of the period that begins at `base`, and the mode after it; while locked, the frame that is due always ends in it
+-- the yield of the period that begins at `base`, and the mode after it; while locked, the frame that is due always ends
+-- in it
 unfoldable pub searched : (ℕ → ℕ) → ℕ → Mode → Option Yield × Mode
 searched line base (Hunting low) = hunted line low (found_in line base low)
 searched line base (Locked next misses) = yield_due line next misses (is_match line next)

@@ -1,5 +1,5 @@
--- All yields of the search over a whole list of bits, each by the yields before it. When the search locks and when it loses the lock is this
--- project's profile.
+-- All yields of the search over a whole list of bits, each by the yields before it. When the search locks and when it
+-- loses the lock is this project's profile.
 use Rattle.std.specs.Prelude.{◌≡◌, ℕ, suc, ◌+◌, ◌<◌, ◌≤◌, Bool, true, false, if◌then◌else◌, nat_le, List, [], ◌∷◌, ◌++◌, length, reverse}
 use Rattle.trau_frame.specs.Match.{bit_in, is_match, frame_at}
 use Rattle.frame_sync.specs.declared.yields.Yield.{Yield}
@@ -52,7 +52,8 @@ pub record IsNextYield (bits : List ℕ) (past : List Yield) (y : Yield) : Type 
   -- its last bit is one of the bits
   pub within : place_of y + 320 ≤ length bits
 
--- these are all yields of the bits, in order: each is the next one after those before it, and there is no next one after all
+-- these are all yields of the bits, in order: each is the next one after those before it, and there is no next one
+-- after all
 abbrev pub Yields : List ℕ → List Yield → Type 0
 Yields bits ys =
     ((before after : List Yield) (y : Yield) → ys ≡ before ++ y ∷ after → IsNextYield bits (reverse before) y) ×

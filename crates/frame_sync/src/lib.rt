@@ -1,5 +1,7 @@
 //! The search for frames on a line (sync pattern of GSM 08.60; lock and loss are this project's profile).
 //!
+//! Layer: Frames and the search for them.
+//!
 //! The search takes the octets of an uplink, 40 a period of 20 ms. It finds where frames begin, at any bit, and gives
 //! each frame or miss in the period that has its last bit. While it hunts, it locks on the first place whose 35 sync
 //! bits match. While locked, it expects a frame every 320 bits. A frame whose sync bits don't match is a miss, and

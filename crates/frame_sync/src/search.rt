@@ -50,8 +50,8 @@ impl FrameSync {
         }
     }
 
-    /// Takes the 40 octets of the next period, and gives the yield whose last bit is among them, if there is one. A line
-    /// has at most 4,294,967,295 periods.
+    /// Takes the 40 octets of the next period, and gives the yield whose last bit is among them, if there is one. A
+    /// line has at most 4,294,967,295 periods.
     pub fn feed(&mut self, octets: &[u8; 40]) -> Option<Yield>
         requires { self.old.periods < 4294967295 }
         ensures step { next_period self.old octets.now ≡ (result, self.new) }

@@ -1,5 +1,6 @@
--- The 33 octets that carry a frame of parameters (RFC 3551, section 4.5.8.1): four bits 1101, and then the fields one after another,
--- each with its most significant bit first. The four bits and the ratios are five octets, and each block is seven.
+-- The 33 octets that carry a frame of parameters (RFC 3551, section 4.5.8.1): four bits 1101, and then the fields one
+-- after another, each with its most significant bit first. The four bits and the ratios are five octets, and each block
+-- is seven.
 use Rattle.std.specs.Prelude.{◌≡◌, ℕ, ◌+◌, ◌*◌, ◌^◌, List, [], ◌∷◌, suc, replicate, slice_index}
 use Rattle.trau_params.specs.Fields.{Fields}
 use Rattle.trau_params.specs.Widths.{larc_widths, block_widths}

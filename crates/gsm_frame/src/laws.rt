@@ -12,8 +12,8 @@ use trau_params::Params;
 pub fn one_frame(one: Params, other: Params)
     ensures { (octets : List ℕ) → Carries octets (fields_of one) → Carries octets (fields_of other) → SameFields one other }
 {
-    one.shape();
-    other.shape();
+    trau_params::laws::has_shape(one);
+    trau_params::laws::has_shape(other);
 }
 
 /// At most one list of 33 octets carries a frame.
@@ -36,7 +36,7 @@ pub fn packed_unpacks_again(params: &Params) -> Option<Params>
 {
     let octets = pack(params);
     let again = unpack(&octets)?;
-    one_frame(*params, again);
+    crate::laws::one_frame(*params, again);
     Some(again)
 }
 
@@ -46,7 +46,7 @@ pub fn unpacked_packs_again(octets: &[u8; 33]) -> Option<[u8; 33]>
     ensures same { IfSome result (λ again. again ≡ octets.now) }
 {
     let again = pack(&unpack(octets)?);
-    are_octets(&again);
-    one_packing();
+    crate::laws::are_octets(&again);
+    crate::laws::one_packing();
     Some(again)
 }

@@ -1,5 +1,5 @@
--- What the callers of a live drill post, and what they know of it (this project's profile). Calls are named by their index,
--- from 0: the call's number is one more.
+-- What the callers of a live drill post, and what they know of it (this project's profile). Calls are named by their
+-- index, from 0: the call's number is one more.
 use Rattle.std.specs.Prelude.{◌≡◌, ◌≢◌, ℕ, ◌+◌, ◌%◌, ◌<◌, ◌==◌, if◌then◌else◌, Some, find, List, [], ◌∷◌, ◌++◌, length, map, slice_index_or}
 use Rattle.std.specs.List.{range_with_len}
 use Rattle.farm_drill.specs.Draws.{draw_state, first_draw}
@@ -56,7 +56,8 @@ abbrev pub Saw : ℕ → ℕ → View → Type 0
 Saw of number v = (b : BookState) × (e : Entry) × (v.seen ≡ b ∷ [])
     × (find (is_of_post of number) b.history ≡ Some e)
 
--- P holds of what a caller knew of the call with this index and of what it knows now; of each other call it knows the same as before
+-- P holds of what a caller knew of the call with this index and of what it knows now; of each other call it knows the
+-- same as before
 pub record MovesSeat (P : View → View → Type 0) (k : ℕ) (old new : Caller) : Type 0 where
   pub number : new.number ≡ old.number
   pub this : (s : Seat) →

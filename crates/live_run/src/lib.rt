@@ -1,5 +1,7 @@
 //! A live drill: callers on threads of their own post the periods of drawn calls to a live farm, and process them.
 //!
+//! Layer: Drills.
+//!
 //! Right below the top function, which prints the text. It takes the seed and the numbers of calls, periods,
 //! callers and waiting posts. It draws the periods (`farm_drill`), posts, processes and reads them (`farm_live`),
 //! ends the farm, and makes the text: the sums, modulo 2^32, of the octets of each call's outgoing lines

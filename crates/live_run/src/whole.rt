@@ -9,7 +9,7 @@ use crate::rest::work_rest;
 use crate::shared::Shared;
 use crate::size::LiveDrill;
 use crate::sums::text_of;
-use farm_live::{Live, legal_histories_are_whole_calls};
+use farm_live::Live;
 use pool_run::Gate;
 use std::alloc::{AllocError, Global};
 use std::sync::Wait;
@@ -36,7 +36,7 @@ pub fn run_live<R: Threads + Wait + Sync, G: Gate + Sync>(
         ≡ live_text drill.now.seed drill.now.calls drill.now.periods) }
 {
     // A law: the octets of a legal history are those of the whole call.
-    legal_histories_are_whole_calls();
+    farm_live::laws::legal_histories_are_whole_calls();
     let (live, callers) = Live::new(rt, alloc, drill.calls, drill.inbox, drill.callers)?;
     let shared = Shared {
         rt,

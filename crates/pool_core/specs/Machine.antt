@@ -7,8 +7,8 @@ use Rattle.pool_core.specs.declared.step.PoolStep.{PoolStep}
 use Rattle.pool_core.specs.declared.step.PoolStep.TheVariants.{Pop, Steal, Run, Push, Finish}
 use Rattle.pool_core.specs.declared.step.NotLegal.{NotLegal}
 
--- The jobs by number: their lengths and places, in periods. The workers by number: their deques, the front first, and their
--- hands. The jobs that are done, the first done first.
+-- The jobs by number: their lengths and places, in periods. The workers by number: their deques, the front first, and
+-- their hands. The jobs that are done, the first done first.
 pub record PoolState : Type 0 where
   pub lens : List ℕ
   pub places : List ℕ

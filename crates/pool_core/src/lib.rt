@@ -1,5 +1,7 @@
 //! The pool machine: jobs in the deques and hands of workers that steal from one another.
 //!
+//! Layer: The report, the pool, the jobs of a round.
+//!
 //! Pure, without threads: it defines which steps workers may take to share a round's jobs, one step at a time, and
 //! where the jobs are after them, whatever their order. A job has a length in periods, and a place, the number of
 //! its periods that are done. It is in the deque of one worker, in the hand of one worker, or done.

@@ -30,7 +30,8 @@ module _ {W : Type 0} where
   abbrev pub IsEnded : (W → W) → Task W → Type 0
   IsEnded finish t = finish t.job.value ≡ t.job.value
 
-  -- the worker can run: its deque is first in first out, it has a pass of each deque, and its list has finished jobs only
+  -- the worker can run: its deque is first in first out, it has a pass of each deque, and its list has finished jobs
+  -- only
   pub record IsReady (finish : W → W) (thieves : List (Thief W)) (m : Member W) : Type 0 where
     pub fifo : worker_flavor m.own ≡ 0
     pub parts : 0 < (worker_view m.own).parts

@@ -1,5 +1,7 @@
 //! A pool of jobs: workers that steal from one another run each job of a round to its end, in slices.
 //!
+//! Layer: The report, the pool, the jobs of a round.
+//!
 //! A round's jobs come in as a list, run without touching anything outside, and go out finished, in the same order.
 //! The pool doesn't know what a job does: `work` has the trait of a job, with the ghost functions that make
 //! "finished" exact. The crates above make a job for each call of a round, with its octets, and run it in two

@@ -99,7 +99,8 @@ fn put<W: Work>(thieves: &[Thief<W>], member: &mut Member<W>, task: Task<W>) -> 
     }
 }
 
-// One step, from the job in hand to the next one in hand. `None` if there is none in hand and each deque was found empty.
+// One step, from the job in hand to the next one in hand. `None` if there is none in hand and each deque was found
+// empty.
 fn step<W: Work, G: Gate>(
     thieves: &[Thief<W>],
     member: &mut Member<W>,

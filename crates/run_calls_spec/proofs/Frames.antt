@@ -38,8 +38,8 @@ use Rattle.call_spec.proofs.Ranges.{IsPeriod}
 use Rattle.call_spec.proofs.Reading.{LooksBack, yield-period, effective-period}
 use Rattle.call_spec.proofs.Whole.{history-whole, call-whole}
 use Rattle.run_spec.specs.Run.{who_in, Run, done_in, start_in, end_in, other_in, up_in, ups_to, item_of, heard_by, period_of, periods_to, periods_in}
-use Rattle.run_spec.proofs.Going.{ups_periods, item_ups}
-use Rattle.run_spec.proofs.LongerLines.{length-periods_to}
+use Rattle.run_spec.proofs.Periods.Next.{ups_periods, item_ups}
+use Rattle.run_spec.proofs.Parts.LongerLines.{length-periods_to}
 use Rattle.run_calls_spec.specs.Whole.{count_in, whole_call, IsBridged, item_for, yield_on, frame_on}
 use Rattle.run_calls_spec.proofs.Periods.{is_whole, history_same}
 use Rattle.run_calls_spec.proofs.Items.{bridged_lies, partner_bridged, both_have, counted, item_found}

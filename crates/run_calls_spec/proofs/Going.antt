@@ -20,7 +20,7 @@ use Rattle.call_spec.proofs.Frames.{made-read}
 use Rattle.call_spec.proofs.Whole.{history-whole, call-whole}
 use Rattle.run_spec.specs.Run.{who_in, Run, done_in, spans_in, start_in, end_in, is_of, periods_in}
 use Rattle.run_spec.specs.Facts.{carries_in, sent_by, span_line}
-use Rattle.run_spec.proofs.Sent.{sent_or_lost}
+use Rattle.run_spec.proofs.Frames.Sent.{sent_or_lost}
 use Rattle.run_calls_spec.specs.Whole.{begins_in, span_for, whole_call, IsBridged}
 use Rattle.run_calls_spec.specs.Sent.{frame_count, CarriesHanded, Sends, WaitsUnsent, IsFirstOfSpan, frames_with}
 use Rattle.run_calls_spec.proofs.Spans.{LiesIn}

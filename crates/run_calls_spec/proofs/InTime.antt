@@ -16,13 +16,13 @@ use Rattle.switchboard.specs.Replies.{known_of}
 use Rattle.switchboard.specs.Ends.{Given, whole_of, lack_of, ends_at, span_of}
 use Rattle.run_spec.specs.Run.{Run, whole_in, done_in}
 use Rattle.run_spec.proofs.Lists.{each_append}
-use Rattle.run_spec.proofs.Executing.{AreReplies, added_replies, done_after-added}
-use Rattle.run_spec.proofs.Showing.{ShownBy, shown}
-use Rattle.run_spec.proofs.Standing.{RisesFrom}
-use Rattle.run_spec.proofs.OpenCalls.{open_facts, gone_is, opened_kept, closed_cases}
-use Rattle.run_spec.proofs.Settling.{at_of, to_of, ends_by, found_stamp, closed_stamp}
-use Rattle.run_spec.proofs.SoFar.{run_rises}
-use Rattle.run_spec.proofs.Covering.{from_above}
+use Rattle.run_spec.proofs.Orders.Executed.{AreReplies, added_replies, done_after-added}
+use Rattle.run_spec.proofs.Orders.Shown.{ShownBy, shown}
+use Rattle.run_spec.proofs.Bridges.Standing.{RisesFrom}
+use Rattle.run_spec.proofs.Orders.OpenCalls.{open_facts, gone_is, opened_kept, closed_cases}
+use Rattle.run_spec.proofs.Periods.Settled.{at_of, to_of, ends_by, found_stamp, closed_stamp}
+use Rattle.run_spec.proofs.Periods.SoFar.{run_rises}
+use Rattle.run_spec.proofs.Bridges.Covered.{from_above}
 
 -- ---- a call that lasts to period t: neither its lines nor an order end it before
 

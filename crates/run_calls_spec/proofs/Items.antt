@@ -10,10 +10,10 @@ use Rattle.switchboard.specs.declared.table.Bridge.{Bridge}
 use Rattle.switchboard.specs.Bridges.{bridges, joins}
 use Rattle.run_spec.specs.Run.{Run, whole_in, given_in, done_in, spans_in, start_in, end_in, is_of, other_in, span_at, handed_to, ups_to, item_of}
 use Rattle.run_spec.proofs.Lists.{each_all, each_weaker, find_none, found, none_each, AtMostOne, one_weaker, one_found}
-use Rattle.run_spec.proofs.Standing.{Standing, NeverOverlap, IsSoundBridge, over_by}
-use Rattle.run_spec.proofs.Settling.{covers, to_of}
-use Rattle.run_spec.proofs.SoFar.{standing_end}
-use Rattle.run_spec.proofs.Covering.{over_within}
+use Rattle.run_spec.proofs.Bridges.Standing.{Standing, NeverOverlap, IsSoundBridge, over_by}
+use Rattle.run_spec.proofs.Periods.Settled.{covers, to_of}
+use Rattle.run_spec.proofs.Periods.SoFar.{standing_end}
+use Rattle.run_spec.proofs.Bridges.Covered.{over_within}
 use Rattle.run_calls_spec.specs.Whole.{item_in, IsBridged, item_for}
 use Rattle.run_calls_spec.proofs.Spans.{LiesIn, span_in, spans_lie, handed_in}
 

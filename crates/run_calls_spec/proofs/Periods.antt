@@ -10,13 +10,13 @@ use Rattle.switchboard.specs.Ends.{whole_of}
 use Rattle.call_spec.specs.Call.{Setting, periods, setting_at}
 use Rattle.call_spec.specs.Whole.{AreSpans, IsWhole, call_period, first_periods, periods_of_call}
 use Rattle.run_spec.specs.Run.{Run, given_in, whole_in, done_in, start_in, end_in, period_of, periods_to, periods_in}
-use Rattle.run_spec.proofs.SoFar.{standing_end}
-use Rattle.run_spec.proofs.Settling.{start_is}
-use Rattle.run_spec.proofs.Settled.{same_period}
-use Rattle.run_spec.proofs.Covering.{ends_within}
+use Rattle.run_spec.proofs.Periods.SoFar.{standing_end}
+use Rattle.run_spec.proofs.Periods.Settled.{start_is}
+use Rattle.run_spec.proofs.Periods.Same.{same_period}
+use Rattle.run_spec.proofs.Bridges.Covered.{ends_within}
 use Rattle.run_calls_spec.specs.Whole.{count_in, setting_in, whole_call}
 use Rattle.run_calls_spec.proofs.Spans.{spans_ordered, starts_in, handed_in}
-use Rattle.run_spec.proofs.OpenCalls.{opened_some}
+use Rattle.run_spec.proofs.Orders.OpenCalls.{opened_some}
 
 -- ---- its lines
 

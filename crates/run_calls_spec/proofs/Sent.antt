@@ -19,7 +19,7 @@ use Rattle.call_spec.specs.Down.{first_frames, frame_by_number, frames_of_call, 
 use Rattle.call_spec.specs.History.{IsCallHistory, call_of_history}
 use Rattle.call_spec.specs.Whole.{IsWhole, periods_of_call}
 use Rattle.call_spec.proofs.Stretched.{before, stretched-more}
-use Rattle.call_spec.proofs.Items.{made-in_order}
+use Rattle.call_spec.proofs.Bridges.Items.{made-in_order}
 use Rattle.call_spec.proofs.Frames.{made-read, first-read}
 use Rattle.call_spec.proofs.Sending.{frame_after, adds-frame}
 use Rattle.call_spec.proofs.Whole.{history-whole, call-whole}

@@ -16,10 +16,10 @@ use Rattle.call_spec.specs.Call.{Span, item_at, starts_at}
 use Rattle.call_spec.specs.Whole.{AreSpans}
 use Rattle.run_spec.specs.Run.{Run, whole_in, given_in, done_in, spans_in, start_in, end_in, is_of, other_in, handed_to}
 use Rattle.run_spec.proofs.Lists.{each_both, each_map, each_weaker}
-use Rattle.run_spec.proofs.Standing.{Standing, IsSoundBridge, NeverOverlap, over_by}
-use Rattle.run_spec.proofs.Settling.{start_is, to_of, covers}
-use Rattle.run_spec.proofs.SoFar.{standing_end}
-use Rattle.run_spec.proofs.Covering.{over_within}
+use Rattle.run_spec.proofs.Bridges.Standing.{Standing, IsSoundBridge, NeverOverlap, over_by}
+use Rattle.run_spec.proofs.Periods.Settled.{start_is, to_of, covers}
+use Rattle.run_spec.proofs.Periods.SoFar.{standing_end}
+use Rattle.run_spec.proofs.Bridges.Covered.{over_within}
 use Rattle.run_calls_spec.specs.Whole.{count_in, item_in, begins_in, span_for, spans_for}
 use Rattle.run_calls_spec.proofs.InTime.{IsInTime, bridges_in_time, ends_after}
 

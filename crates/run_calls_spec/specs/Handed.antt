@@ -32,21 +32,22 @@ pub record HandsOver (r : Run) : Type 0 where
 pub record GoesOut (r : Run) : Type 0 where
   -- each frame that is made is sent
   pub each : (c : ℕ) → IsOpened r c → length (sent_frames r c) ≡ frame_count r c
-  -- what a call is handed in a period of a bridge goes out in a frame that it makes; only what it is handed in its last period
-  -- may be lost
+  -- what a call is handed in a period of a bridge goes out in a frame that it makes; only what it is handed in its last
+  -- period may be lost
   pub goes : (c t : ℕ) (x : Span) → IsBridged r c t x → t + 1 < end_in r c → (j : ℕ) × Sends r c t x j
-  -- this frame is a speech frame with SP 1 and the 260 bits that were handed over; the bits of a good speech frame are unchanged
+  -- this frame is a speech frame with SP 1 and the 260 bits that were handed over; the bits of a good speech frame are
+  -- unchanged
   pub sent : (c t : ℕ) (x : Span) (j : ℕ) → Sends r c t x j →
       frame_as_sent r c j ≡ Speech (bits260 (handed_fields (frame_on r (other_in c x) t))) true
   pub unchanged : (c t : ℕ) (x : Span) (j p : ℕ) (bits : List ℕ) → Sends r c t x j → yield_on r (other_in c x) t ≡ Some (Frame p bits) → IsGoodSpeech bits →
       frame_as_sent r c j ≡ Speech (data_of bits) true
-  -- the Down line has 320 bits for each of the call's periods; it has the frame's 320 bits one after another, as far as the
-  -- line goes
+  -- the Down line has 320 bits for each of the call's periods; it has the frame's 320 bits one after another, as far as
+  -- the line goes
   pub long : (c : ℕ) → IsOpened r c → length (down (whole_call r c)) ≡ 320 * (end_in r c - start_in r c)
   pub on_line : (c t : ℕ) (x : Span) (j k : ℕ) → Sends r c t x j → k < 320 → frame_place r c j + k < length (down (whole_call r c)) →
       slice_index (down (whole_call r c)) (frame_place r c j + k) ≡ slice_index (down_bits (frame_as_sent r c j)) k
-  -- every frame that is made begins on the line or at its end; one that carries what was handed over is on it whole, unless it
-  -- is the last frame made
+  -- every frame that is made begins on the line or at its end; one that carries what was handed over is on it whole,
+  -- unless it is the last frame made
   pub begins : (c j : ℕ) → IsOpened r c → j < frame_count r c → frame_place r c j ≤ length (down (whole_call r c))
   pub whole : (c t : ℕ) (x : Span) (j : ℕ) → Sends r c t x j → j + 1 < frame_count r c → frame_place r c j + 320 ≤ length (down (whole_call r c))
   -- the Down line has the first of the bits that are made for it; at most 632 more are made, which stay unwritten
@@ -62,13 +63,13 @@ pub record GoesOut (r : Run) : Type 0 where
       CarriesHanded r c t x j ↔ (j ≡ first + (t - x.from))
   pub in_order : (c t u : ℕ) (x : Span) (j k : ℕ) → IsBridged r c t x → IsBridged r c u x → CarriesHanded r c t x j → CarriesHanded r c u x k → t < u → j < k
   pub once : (c t : ℕ) (x : Span) (j k : ℕ) → IsBridged r c t x → CarriesHanded r c t x j → CarriesHanded r c t x k → j ≡ k
-  -- the frame is made in the period in which its bits are handed over or in the next one; so between periods at most one handed
-  -- frame waits, that of the period just over
+  -- the frame is made in the period in which its bits are handed over or in the next one; so between periods at most
+  -- one handed frame waits, that of the period just over
   pub soon : (c t : ℕ) (x : Span) (j : ℕ) → IsBridged r c t x → CarriesHanded r c t x j →
       (t ≤ made_in r c j) × (made_in r c j ≤ t + 1)
   pub one_waits : (c u t : ℕ) (x : Span) → WaitsUnsent r c u t x → u ≡ t + 1
-  -- for each direction of a bridge the report counts the frames that carry what was handed over in it: what A handed over is in
-  -- frames that B made, and the other way round
+  -- for each direction of a bridge the report counts the frames that carry what was handed over in it: what A handed
+  -- over is in frames that B made, and the other way round
   pub counted : (c : ℕ) (x : Span) → IsOpened r c → sent_by r x c ≡ frames_with r c x
   pub told : (x : Span) → Contains (spans_in r) x → ((span_line r x).sent_a ≡ frames_with r x.b x) × ((span_line r x).sent_b ≡ frames_with r x.a x)
   -- in each direction what was handed over in the bridge's periods is sent or lost, and at most one frame is lost

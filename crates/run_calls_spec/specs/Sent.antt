@@ -1,5 +1,5 @@
--- The frames of a call's downlink, which frame carries what its partner hands over in a period, and what of the call's lines
--- doesn't depend on that. Frames are numbered from 0.
+-- The frames of a call's downlink, which frame carries what its partner hands over in a period, and what of the call's
+-- lines doesn't depend on that. Frames are numbered from 0.
 use Rattle.std.specs.Prelude.{◌≡◌, ◌≤◌, ◌<◌, ℕ, ◌+◌, ◌-◌, ◌*◌, true, Some, None, List, length, map, filter, slice_index, slice_index_or}
 use Rattle.trau_frame.specs.declared.frames.DownFrame.{DownFrame}
 use Rattle.trau_frame.specs.declared.frames.DownFrame.TheVariants.{Speech, Idle}
@@ -17,11 +17,13 @@ use Rattle.run_calls_spec.specs.Whole.{span_for, whole_call, IsBridged}
 abbrev pub sent_as : Call → ℕ → DownFrame
 sent_as call j = slice_index_or (down_frames call (frames_of_call call)) j Idle
 
--- the bit of the Down line at which frame j begins: after 320 ones, and two bits for each octet of the Pcm line before its start
+-- the bit of the Down line at which frame j begins: after 320 ones, and two bits for each octet of the Pcm line before
+-- its start
 abbrev pub frame_begin : Call → ℕ → ℕ
 frame_begin call j = 320 + 2 * (frame_by_number call j).start
 
--- of a call of a run: how many frames it makes, these frames as they are sent, frame j as it is sent, and where it begins
+-- of a call of a run: how many frames it makes, these frames as they are sent, frame j as it is sent, and where it
+-- begins
 abbrev pub frame_count : Run → ℕ → ℕ
 frame_count r c = length (frames_of_call (whole_call r c))
 
@@ -52,8 +54,8 @@ pub record Sends (r : Run) (c t : ℕ) (x : board.Span) (j : ℕ) : Type 0 where
   pub made : j < frame_count r c
   pub carries : CarriesHanded r c t x j
 
--- When period u of the run begins, what call c is handed in an earlier period t of span x still waits: no frame made before
--- carries it.
+-- When period u of the run begins, what call c is handed in an earlier period t of span x still waits: no frame made
+-- before carries it.
 pub record WaitsUnsent (r : Run) (c u t : ℕ) (x : board.Span) : Type 0 where
   pub bridged : IsBridged r c t x
   pub handed : t < u
@@ -86,9 +88,9 @@ abbrev pub IsNoItemBit : Call → ℕ → Type 0
 IsNoItemBit call k = (j h i n : ℕ) → (frame_by_number call j).carries ≡ Some h → k ≡ frame_begin call j + i → i < 320 →
     role_of i ≡ Data n → ⊥
 
--- The lines are the same except for the data bits of frames that carry an item. The same frames are made, each with its start,
--- its shift and the period whose item it carries. A frame that carries no item is sent the same. A frame that carries one is the
--- speech frame of each call's own item of that period.
+-- The lines are the same except for the data bits of frames that carry an item. The same frames are made, each with its
+-- start, its shift and the period whose item it carries. A frame that carries no item is sent the same. A frame that
+-- carries one is the speech frame of each call's own item of that period.
 pub record DiffersInItems (call other : Call) : Type 0 where
   pub out_line : out other ≡ out call
   pub down_length : length (down other) ≡ length (down call)

@@ -1,5 +1,5 @@
--- The calls of a run as wholes: what a call's own lines give, its orders, and the spans of its bridges with what its partners
--- hand over in them.
+-- The calls of a run as wholes: what a call's own lines give, its orders, and the spans of its bridges with what its
+-- partners hand over in them.
 use Rattle.std.specs.Prelude.{◌≡◌, ◌≤◌, ◌<◌, ℕ, ◌+◌, ◌-◌, ◌*◌, pos, Bool, true, ◌&&◌, nat_lt, Option, List, Contains, map, filter, take}
 use Rattle.std.specs.List.{range_with_len}
 use Rattle.trau_orders.specs.declared.order.DtxMode.TheVariants.{Uplink}
@@ -24,8 +24,8 @@ setting_in r c t = record {
 abbrev pub item_in : Run → ℕ → ℕ → List ℕ
 item_in r d t = item_of d (ups_to r d (t + 1 - start_in r d))
 
--- a span is of this call and begins before the call's end: if a bridge is made at the period at which the call ends, the call
--- has no part in it
+-- a span is of this call and begins before the call's end: if a bridge is made at the period at which the call ends,
+-- the call has no part in it
 abbrev pub begins_in : Run → ℕ → board.Span → Bool
 begins_in r c x = is_of c x && nat_lt x.from (end_in r c)
 

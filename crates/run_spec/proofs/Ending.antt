@@ -1,4 +1,5 @@
--- For crates above: how each call of a run ends, known in its round, and the report once all orders were executed (`report_end`).
+-- For crates above: how each call of a run ends, known in its round, and the report once all orders were executed
+-- (`report_end`).
 use Rattle.std.proofs.Common.{◌≡◌, refl, sym, ap, ◌∙◌, subst, ℕ, ◌+◌, ◌<◌, ◌≤◌, Bool, Option, Some, None, List, [], ◌∷◌, ◌++◌, map, arith, true, false}
 use Rattle.std.specs.Prelude.{length, IfSome, not, nat_le, nat_lt, filter, if◌then◌else◌}
 use Rattle.std.specs.List.{AllByRecursion}
@@ -11,17 +12,17 @@ use Rattle.switchboard.specs.Calls.{Done, opened_at, closed_at}
 use Rattle.switchboard.specs.Runs.{left_of}
 use Rattle.switchboard.specs.State.{first_stamp, replies_from}
 use Rattle.switchboard.specs.Ends.{lack_of, end_of, spans_of, ends_at}
-use Rattle.switchboard.proofs.Appending.{or_else}
-use Rattle.switchboard.proofs.Whole.{end_by}
+use Rattle.switchboard.proofs.Orders.OneMore.{or_else}
+use Rattle.switchboard.proofs.Boards.Whole.{end_by}
 use Rattle.run_spec.specs.Run.{Run, given_in, whole_in, done_in}
 use Rattle.trau_io.specs.declared.line.Line.{Line}
 use Rattle.farm_report.specs.View.{ReportView}
 use Rattle.run_spec.specs.Facts.{opened_calls, call_line, span_line, report_of}
 use Rattle.run_spec.specs.Now.{IsSoFar, NoOrderTo}
-use Rattle.run_spec.proofs.Executing.{closed-append, added}
-use Rattle.run_spec.proofs.OpenCalls.{closed_kept, opened_kept}
-use Rattle.run_spec.proofs.Settling.{closed_stamp, at_of, ends_by}
-use Rattle.run_spec.proofs.SoFar.{Rises, left_rises, rest_in, done-rest, rest_above, standing_rest, rest_from, standing_end}
+use Rattle.run_spec.proofs.Orders.Executed.{closed-append, added}
+use Rattle.run_spec.proofs.Orders.OpenCalls.{closed_kept, opened_kept}
+use Rattle.run_spec.proofs.Periods.Settled.{closed_stamp, at_of, ends_by}
+use Rattle.run_spec.proofs.Periods.SoFar.{Rises, left_rises, rest_in, done-rest, rest_above, standing_rest, rest_from, standing_end}
 use Rattle.run_spec.proofs.Lists.{one_value}
 
 -- **A closed call has ended there.**

@@ -1,4 +1,5 @@
--- For crates above: what holds of each item of a list, also of a filtered or mapped one, and lists in which one item at most passes (`AtMostOne`).
+-- For crates above: what holds of each item of a list, also of a filtered or mapped one, and lists in which one item at
+-- most passes (`AtMostOne`).
 use Rattle.std.proofs.Common.{◌≡◌, refl, sym, ap, ◌∙◌, ℕ, Bool, true, false, Option, Some, None, List, [], ◌∷◌, ◌++◌, map, inl, inr}
 use Rattle.std.specs.Prelude.{◌&&◌, ◌||◌, if◌then◌else◌, find, is_some, option_map, filter}
 use Rattle.std.specs.List.{list_any, AllByRecursion}

@@ -66,8 +66,8 @@ three_marks = (refl, refl, refl)
 three_calls : calls_in three ≡ 1 ∷ 2 ∷ 3 ∷ []
 three_calls = refl
 
--- Call 1 ends by its lines and call 2 is closed in period 7: so only call 3 is cut off by the run's end, and by an end at
--- period 5 both. Of call 1 two periods lie before period 5, of call 3 five.
+-- Call 1 ends by its lines and call 2 is closed in period 7: so only call 3 is cut off by the run's end, and by an end
+-- at period 5 both. Of call 1 two periods lie before period 5, of call 3 five.
 three_marked : (filter (λ c. is_limit (cause_in three c)) (calls_in three) ≡ 3 ∷ [])
     × (filter (λ c. is_limit (cause_in (cut_at 5 three) c)) (calls_in (cut_at 5 three)) ≡ 2 ∷ 3 ∷ [])
     × (worked_to three 5 1 ≡ 2) × (worked_to three 5 3 ≡ 5) × (worked_to three 8 3 ≡ 8)

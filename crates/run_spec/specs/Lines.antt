@@ -1,5 +1,5 @@
--- The outgoing lines of a run's calls. They depend on a call's own lines and orders and, within the spans of its bridges, on
--- its partner's uplink (this project's profile).
+-- The outgoing lines of a run's calls. They depend on a call's own lines and orders and, within the spans of its
+-- bridges, on its partner's uplink (this project's profile).
 use Rattle.std.specs.Prelude.{ℕ, List}
 use Rattle.trau_bits.specs.Bits.{octets_of}
 use Rattle.call_leg.specs.Who.{Who}

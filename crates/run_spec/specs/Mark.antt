@@ -30,7 +30,8 @@ mark_of r = record { period = r.periods; calls = marked_calls r }
 abbrev pub cut_at : ℕ → Run → Run
 cut_at p r = record r { periods = p }
 
--- What a run writes on the lines of a call is what it writes up to period p, followed by the octets of the later periods.
+-- What a run writes on the lines of a call is what it writes up to period p, followed by the octets of the later
+-- periods.
 pub record Joins (r : Run) (p : ℕ) : Type 0 where
   -- a call that the run up to p opens is opened in the whole run
   pub opened : (c : ℕ) → IsOpened (cut_at p r) c → IsOpened r c

@@ -1,5 +1,6 @@
 -- The periods and settings of a run's calls, from what is known while the run goes on. `ds` are the orders that were
--- executed so far, the oldest first, and `left` the remaining ones. At the clock t, no executed order has a stamp above t, and no remaining one a stamp below t.
+-- executed so far, the oldest first, and `left` the remaining ones. At the clock t, no executed order has a stamp above
+-- t, and no remaining one a stamp below t.
 use Rattle.std.specs.Prelude.{◌≡◌, ℕ, zero, suc, ◌+◌, ◌-◌, ◌<◌, ◌≤◌, Bool, ◌&&◌, ◌||◌, if◌then◌else◌, ◌==◌, nat_lt, Option, is_some, is_none, IfSome}
 use Rattle.std.specs.Prelude.{option_map, find, Result, Ok, Err, List, ◌++◌, map, pos}
 use Rattle.std.specs.List.{All, list_any}
@@ -19,8 +20,8 @@ use Rattle.call_leg.specs.Periods.{CallPeriod}
 use Rattle.call_leg.specs.Settings.{Settings, new_settings, settings_later, with_level, with_mode, with_bridge, without_bridge}
 use Rattle.run_spec.specs.Run.{Run, whole_in, level_after, dtx_mode_after, up_in, pcm_in, ups_to, item_of}
 
--- A run so far: its orders are the executed ones, with the replies that the definition gives, and then the remaining ones.
--- The stamps of executed orders are below the run's number of periods.
+-- A run so far: its orders are the executed ones, with the replies that the definition gives, and then the remaining
+-- ones. The stamps of executed orders are below the run's number of periods.
 pub record IsSoFar (r : Run) (t : ℕ) (ds : List Done) (left : List Order) : Type 0 where
   pub orders : AreOrders r.orders
   pub listed : map (λ d. d.order) ds ++ left ≡ r.orders
@@ -56,7 +57,8 @@ period_now r ds t c = let k = t - start_of ds c in record {
   handed = handed_now r ds t c;
 }
 
--- the settings for period t, as the board knows them at that clock: a bridge lasts until the lines of one of its calls end it
+-- the settings for period t, as the board knows them at that clock: a bridge lasts until the lines of one of its calls
+-- end it
 abbrev pub settings_now : Run → List Done → ℕ → ℕ → Settings
 settings_now r ds t c = record {
   level = level_after c (pos 256) ds;

@@ -120,8 +120,8 @@ abbrev pub heard_by : List (List ℕ) → List Heard
 heard_by [] = []
 heard_by (up ∷ past) = heard_as (sighting_in (yield_of up past)) ∷ heard_by past
 
--- What a call hands to its partner in the newest of these periods: the 260 bits of its effective frame, or of silence if it
--- is quiet. They depend only on its number and its uplink.
+-- What a call hands to its partner in the newest of these periods: the 260 bits of its effective frame, or of silence
+-- if it is quiet. They depend only on its number and its uplink.
 unfoldable pub item_of : ℕ → List (List ℕ) → List ℕ
 item_of c ups = bits260 (handed_fields (effective_of c (heard_by ups)))
 

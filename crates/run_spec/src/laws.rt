@@ -36,8 +36,8 @@ ghost use Rattle.run_spec.specs.Mark.{Joins, mark_of};
 ghost use Rattle.run_spec.specs.Facts.{opened_calls, call_line, span_line, sent_by, report_of};
 ghost use Rattle.run_spec.specs.Now.{IsSoFar, NoOrderTo, has_period, bridge_now, handed_now, period_now, settings_now, settings_in, changed_by, after_periods};
 
-/// Orders executed in parts give the same as all at once. Later orders leave the earlier replies unchanged, and add one reply
-/// each.
+/// Orders executed in parts give the same as all at once. Later orders leave the earlier replies unchanged, and add one
+/// reply each.
 pub fn executing_adds()
     ensures front { (whole : ℕ → ℕ) (ds : List Done) (xs ys : List Order) →
         done_after whole ds (xs ++ ys) ≡ done_after whole (done_after whole ds xs) ys }
@@ -54,9 +54,9 @@ pub fn runs_go_on()
         d.order.stamp ≡ t → t < r.periods → IsRun (whole_in r) (ds ++ d ∷ []) → IsSoFar r t (ds ++ d ∷ []) left }
 {}
 
-/// The whole run executes the orders so far, and then the remaining orders before the run's end. If there is none of these,
-/// all is executed, and the remaining orders are those that the run leaves. A call that was opened so far begins at the same
-/// period and has the same law in the whole run.
+/// The whole run executes the orders so far, and then the remaining orders before the run's end. If there is none of
+/// these, all is executed, and the remaining orders are those that the run leaves. A call that was opened so far begins
+/// at the same period and has the same law in the whole run.
 pub fn runs_are_whole()
     ensures rest { (r : Run) (t : ℕ) (ds : List Done) (left : List Order) → IsSoFar r t ds left →
         (rest : List Done) × (done_in r ≡ ds ++ rest) × (map (λ d. d.order) rest ≡ filter (λ o. nat_lt o.stamp r.periods) left) }
@@ -114,8 +114,8 @@ pub fn bridges_go_on()
         gone_at (whole_in r) (u + 1) ds c ≡ not (has_period r ds u c) }
 {}
 
-/// The settings of a call: each order changes them as its act says. After a period they are the settings of this period,
-/// except that no bridge starts.
+/// The settings of a call: each order changes them as its act says. After a period they are the settings of this
+/// period, except that no bridge starts.
 pub fn settings_follow()
     ensures order { (r : Run) (t : ℕ) (ds : List Done) (d : Done) (left : List Order) (c : ℕ) → IsSoFar r t ds (d.order ∷ left) →
         d.order.stamp ≡ t → IsRun (whole_in r) (ds ++ d ∷ []) → settings_now r (ds ++ d ∷ []) t c ≡ changed_by c d.result (settings_now r ds t c) }
@@ -136,7 +136,8 @@ pub fn rounds_go_on()
     ensures alone { (r : Run) (t k : ℕ) (ds : List Done) (left : List Order) (c : ℕ) → IsSoFar r t ds left → t + k ≤ r.periods →
         bridge_of (gone_at (whole_in r) t ds) ds c ≡ None → settings_now r ds (t + k) c ≡ after_periods k (settings_now r ds t c) }
 
-    // If its partner has only the first m of these periods, the bridge is over after the round; if it has all, it goes on.
+    // If its partner has only the first m of these periods, the bridge is over after the round; if it has all, it goes
+    // on.
     ensures bridged { (r : Run) (t k m : ℕ) (ds : List Done) (left : List Order) (c : ℕ) (x : Bridge) → IsSoFar r t ds left → t + k ≤ r.periods →
         bridge_of (gone_at (whole_in r) t ds) ds c ≡ Some x → ((j : ℕ) → j < k → has_period r ds (t + j) c ≡ true) →
         ((j : ℕ) → j < k → has_period r ds (t + j) (other c x) ≡ nat_lt j m) →
@@ -144,8 +145,8 @@ pub fn rounds_go_on()
         (if nat_lt m k then without_bridge (after_periods k (settings_now r ds t c)) else after_periods k (settings_now r ds t c)) }
 {}
 
-/// The end of a call is known after the orders up to it were executed: an order closed it, its lines lack a period, or the run
-/// ends. The period of an end by its lines is known before the orders of that period are executed.
+/// The end of a call is known after the orders up to it were executed: an order closed it, its lines lack a period, or
+/// the run ends. The period of an end by its lines is known before the orders of that period are executed.
 pub fn ends_are_known()
     ensures closed { (r : Run) (t : ℕ) (ds : List Done) (left : List Order) (c s e : ℕ) → IsSoFar r t ds left → closed_at c ds ≡ Some e →
         end_of (given_in r) r.periods (done_in r) c s ≡ record { call = c; at = e; cause = Closed } }
@@ -160,8 +161,8 @@ pub fn ends_are_known()
         end_of (given_in r) r.periods (done_in r) c s ≡ record { call = c; at = r.periods; cause = Limit } }
 {}
 
-/// The periods of a call are a history of its downlink: there is a period between two bridges, and a bridge has no gap. So no
-/// handed frame waits when an order makes a bridge.
+/// The periods of a call are a history of its downlink: there is a period between two bridges, and a bridge has no gap.
+/// So no handed frame waits when an order makes a bridge.
 pub fn periods_are_a_history()
     ensures history { (r : Run) (c n : ℕ) → AreOrders r.orders → IsHistory (down_periods (periods_to r c n)) }
     ensures bridge { (r : Run) (t : ℕ) (ds : List Done) (d : Done) (left : List Order) (a b c s : ℕ) → IsSoFar r t ds (d.order ∷ left) →
@@ -169,8 +170,8 @@ pub fn periods_are_a_history()
         opened_at c ds ≡ Some s → handed_due (down_periods (periods_to r c (t - s))) (frames_of (periods_to r c (t - s))) ≡ None }
 {}
 
-/// A call hands over the bits of its effective frame of its newest period. So in a period of a bridge a call is handed those
-/// of its partner, and both calls have the period.
+/// A call hands over the bits of its effective frame of its newest period. So in a period of a bridge a call is handed
+/// those of its partner, and both calls have the period.
 pub fn items_are_effective_frames()
     ensures both { (r : Run) (t u : ℕ) (ds : List Done) (left : List Order) (c : ℕ) (x : Bridge) → IsSoFar r t ds left →
         bridge_now r ds u c ≡ Some x →
@@ -184,7 +185,8 @@ pub fn items_are_effective_frames()
     ensures ups { (r : Run) (c n : ℕ) → ups_of (periods_to r c n) ≡ ups_to r c n }
 {}
 
-/// The report's line of a call that has ended, and the octets of its outgoing lines, follow from its periods up to its end.
+/// The report's line of a call that has ended, and the octets of its outgoing lines, follow from its periods up to its
+/// end.
 pub fn ended_calls_are_reported()
     ensures line { (r : Run) (t : ℕ) (ds : List Done) (left : List Order) (c s : ℕ) (end : CallEnd) → IsSoFar r t ds left →
         opened_at c ds ≡ Some s → end_of (given_in r) r.periods (done_in r) c s ≡ end →
@@ -215,8 +217,8 @@ pub fn handed_frames_are_sent_or_lost()
         ((span_line r x).sent_a + (span_line r x).lost_a ≡ x.to - x.from) × ((span_line r x).sent_b + (span_line r x).lost_b ≡ x.to - x.from) }
 {}
 
-/// How many frames of a bridge a call sends is final when the call's next bridge is made, or at the call's end: no later frame
-/// carries what was handed over in the bridge. k is the index of the call's latest bridge.
+/// How many frames of a bridge a call sends is final when the call's next bridge is made, or at the call's end: no
+/// later frame carries what was handed over in the bridge. k is the index of the call's latest bridge.
 pub fn sent_frames_are_told()
     ensures bridge { (r : Run) (t : ℕ) (ds : List Done) (d : Done) (left : List Order) (a b c s k : ℕ) (x : Span) → IsSoFar r t ds (d.order ∷ left) →
         d.order.stamp ≡ t → t < r.periods → IsRun (whole_in r) (ds ++ d ∷ []) → d.result ≡ Ok (act.Bridged a b) → (c == a || c == b) ≡ true →
@@ -232,8 +234,8 @@ pub fn a_run_is_joined_of_two()
     ensures { (r : Run) (p : ℕ) → AreOrders r.orders → p ≤ r.periods → Joins r p }
 {}
 
-/// The mark of a run of 1 to 4,294,967,295 periods is a mark: its calls began before its period, their numbers rise, and its
-/// sums have 32 bits.
+/// The mark of a run of 1 to 4,294,967,295 periods is a mark: its calls began before its period, their numbers rise,
+/// and its sums have 32 bits.
 pub fn marks_of_runs_are_marks()
     ensures { (r : Run) → 1 ≤ r.periods → r.periods ≤ 4294967295 → IsMark (mark_of r) }
 {}

@@ -32,8 +32,8 @@ missed_since-more heard g k h =
     filter-append (λ i. is_missed (heard i)) (range_with_len (g + 1) (k - g)) ((g + 1 + (k - g)) ∷ []) ∙
     ap (λ x. filter (λ i. is_missed (heard i)) (range_with_len (g + 1) (k - g)) ++ (if is_missed (heard x) then x ∷ [] else [])) last
 
--- `missed` are the numbers of the missed descriptors among the periods since an anchor, of which k is the last: the fall begins with
--- one of them
+-- `missed` are the numbers of the missed descriptors among the periods since an anchor, of which k is the last: the
+-- fall begins with one of them
 pub record Counted (k : ℕ) (since : List Heard) (missed : List ℕ) : Type 0 where
   pub count : missed_in since ≡ length missed
   pub before : length missed < fall_from_missed → periods_of_fall since ≡ 0

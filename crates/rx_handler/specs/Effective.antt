@@ -45,8 +45,8 @@ abbrev pub approached_at : Fields → Fields → ℕ → ℕ → Fields
 approached_at old q g k = mix_of old q (min (k - g + 1) approach_steps)
 
 -- Descriptor q comes in period k + 1; the latest anchor before it is period g, heard as the last argument. The approach
--- starts at the base of period k, if g was a descriptor whose noise hasn't begun to fall; otherwise at q itself. `old r` is
--- where the approach of a descriptor r in g began.
+-- starts at the base of period k, if g was a descriptor whose noise hasn't begun to fall; otherwise at q itself. `old
+-- r` is where the approach of a descriptor r in g began.
 abbrev pub start_after : (ℕ → Heard) → ℕ → (Fields → Fields) → Fields → ℕ → Heard → Fields
 start_after heard k old q g (Good p) = q
 start_after heard k old q g (Sid r) = if fall_at heard g k == 0 then approached_at (old r) r g k else q

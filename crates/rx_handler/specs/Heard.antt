@@ -7,8 +7,8 @@ use Rattle.trau_frame.specs.declared.frames.Class.{Class}
 use Rattle.trau_frame.specs.declared.frames.Class.TheVariants as classes
 use Rattle.trau_frame.specs.declared.frames.UpFrame.{UpFrame}
 
--- Good: good speech. Sid: a valid silence descriptor. Idle: an idle frame. Lost: all else, and whether it was an unusable
--- speech frame where a silence descriptor was due
+-- Good: good speech. Sid: a valid silence descriptor. Idle: an idle frame. Lost: all else, and whether it was an
+-- unusable speech frame where a silence descriptor was due
 pub data Heard : Type 0 where
   Good Sid : Fields → Heard
   Idle : Heard

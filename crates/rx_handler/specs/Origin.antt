@@ -23,8 +23,9 @@ handed_fields (Made p) = p
 
 -- what it is made from. NoFrame: nothing, as the call is quiet. GoodFrame: this good speech frame. LostFrame: the last
 -- good speech frame, and how many periods ago it came. NoiseFrame: the base of the noise, which approaches the latest
--- silence descriptor, and for how many periods the level has fallen. Both counts stop where the frame is silence. Base: the frame before its level is
--- lowered and its lags, gains and random parts are set; so only its ratios and block maxima count.
+-- silence descriptor, and for how many periods the level has fallen. Both counts stop where the frame is silence. Base:
+-- the frame before its level is lowered and its lags, gains and random parts are set; so only its ratios and block
+-- maxima count.
 pub data Origin : Type 0 where
   NoFrame : Origin
   GoodFrame : Fields → Origin

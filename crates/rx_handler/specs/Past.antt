@@ -43,8 +43,8 @@ periods_of_fall (y ∷ since) = periods_of_fall since + (if nat_le fall_from_mis
 abbrev pub approached_of : Fields → Fields → List Heard → Fields
 approached_of old q since = mix_of old q (min (length since + 1) approach_steps)
 
--- where the approach of a further descriptor q starts, by the latest anchor before it. `old r` is where the approach of a
--- descriptor r there began
+-- where the approach of a further descriptor q starts, by the latest anchor before it. `old r` is where the approach of
+-- a descriptor r there began
 abbrev pub start_from : Anchor → (Fields → Fields) → Fields → Fields
 start_from NoAnchor old q = q
 start_from (AtGood p since) old q = q

@@ -7,7 +7,7 @@ use Rattle.rx_noise.specs.Noise.{silent_from_fall}
 abbrev pub fall_from_missed : ℕ
 fall_from_missed = 2
 
--- where the count of periods of a receive side as plain numbers stops, by its tag: that of lost periods in speech (tag 1), else
--- that of the periods of a fall
+-- where the count of periods of a receive side as plain numbers stops, by its tag: that of lost periods in speech (tag
+-- 1), else that of the periods of a fall
 abbrev pub most_periods : ℕ → ℕ
 most_periods tag = if tag == 1 then silent_from_lost else silent_from_fall

@@ -11,7 +11,8 @@ use Rattle.rx_handler.specs.Effective.{is_anchor}
 use Rattle.rx_handler.specs.Past.{Anchor, NoAnchor, AtGood, AtSid, anchor_of, missed_in, periods_of_fall, approach_start_of, draw_count}
 use Rattle.rx_handler.specs.Memory.{RxState, Quiet, Speech, Noise, RxMemory}
 
--- the step in the period of a descriptor, by the latest anchor before it: 1 in noise; the last otherwise, as nothing is approached
+-- the step in the period of a descriptor, by the latest anchor before it: 1 in noise; the last otherwise, as nothing is
+-- approached
 abbrev pub first_step : Anchor → ℕ
 first_step NoAnchor = approach_steps
 first_step (AtGood p since) = approach_steps

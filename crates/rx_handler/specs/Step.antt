@@ -25,9 +25,9 @@ state_after_loss (Speech p n) missed = Speech p (min (n + 1) silent_from_lost)
 state_after_loss (Noise old q step count fall) missed =
     let after = missed_after count missed in Noise old q (min (step + 1) approach_steps) after (fall_after after fall)
 
--- After silence descriptor r. In noise, its period is step 1 of the approach. It starts at the noise of the period before,
--- or at r itself if the level of that noise has begun to fall. After speech or quiet nothing is approached, so all steps are
--- done.
+-- After silence descriptor r. In noise, its period is step 1 of the approach. It starts at the noise of the period
+-- before, or at r itself if the level of that noise has begun to fall. After speech or quiet nothing is approached, so
+-- all steps are done.
 abbrev pub state_after_sid : RxState → Fields → RxState
 state_after_sid Quiet r = Noise r r approach_steps 0 0
 state_after_sid (Speech p n) r = Noise r r approach_steps 0 0

@@ -15,8 +15,8 @@ use trau_params::{Params, silence};
 pub struct FlatRx {
     /// 0: the call is quiet. 1: speech. Any other number: noise.
     pub tag: u8,
-    /// In speech, how many periods ago the last good frame came, counted up to SILENT_FROM_LOST of `rx_subst`. In noise, for
-    /// how many periods its level has fallen, counted up to SILENT_FROM_FALL of `rx_noise`.
+    /// In speech, how many periods ago the last good frame came, counted up to SILENT_FROM_LOST of `rx_subst`. In
+    /// noise, for how many periods its level has fallen, counted up to SILENT_FROM_FALL of `rx_noise`.
     pub periods: u8,
     /// In noise, how many steps of the approach are done, 1 to APPROACH_STEPS of `rx_noise`.
     pub step: u8,

@@ -31,9 +31,9 @@ fn after_speech(last: Params) -> State
     State::Speech(SinceGood { last, periods: 0 })
 }
 
-// A silence descriptor. In noise, this period is step 1 of the approach. It starts at the noise of the period before, or at
-// the descriptor itself if the level of that noise has begun to fall. After speech or quiet nothing is approached, so all
-// steps are done.
+// A silence descriptor. In noise, this period is step 1 of the approach. It starts at the noise of the period before,
+// or at the descriptor itself if the level of that noise has begun to fall. After speech or quiet nothing is
+// approached, so all steps are done.
 fn after_sid(before: &State, sid: Params) -> State
     ensures { state_of result ≡ state_after_sid (state_of before.now) (fields_of sid) }
 {

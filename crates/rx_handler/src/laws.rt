@@ -22,9 +22,10 @@ pub fn the_newest_is_the_last()
         effective_at call (heard_in (reverse (y ∷ past))) (length past) }
 {}
 
-/// How noise approaches a silence descriptor q. If q came in period g and is the latest anchor in period k, k - g + 1 of the
-/// steps are done then, up to all of them (`base`). If the period before q had noise whose level hadn't begun to fall,
-/// the approach starts at that noise (`from_noise`). Otherwise it starts at q itself (`from_itself`; `first` for period 0).
+/// How noise approaches a silence descriptor q. If q came in period g and is the latest anchor in period k, k - g + 1
+/// of the steps are done then, up to all of them (`base`). If the period before q had noise whose level hadn't begun to
+/// fall, the approach starts at that noise (`from_noise`). Otherwise it starts at q itself (`from_itself`; `first` for
+/// period 0).
 pub fn noise_moves()
     ensures base { (heard : ℕ → Heard) (k g : ℕ) (q : Fields) → IsNoise heard k g q →
         base_at heard k g q ≡

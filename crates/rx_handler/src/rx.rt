@@ -55,15 +55,15 @@ impl Rx {
         }
     }
 
-    /// Processes one period and returns its effective frame. Good speech, a valid silence descriptor and an idle frame are
-    /// heard as such. All else is lost: no frame (a miss, or a period without a yield), an invalid descriptor, unusable
-    /// speech, a frame of another kind.
+    /// Processes one period and returns its effective frame. Good speech, a valid silence descriptor and an idle frame
+    /// are heard as such. All else is lost: no frame (a miss, or a period without a yield), an invalid descriptor,
+    /// unusable speech, a frame of another kind.
     pub fn take(&mut self, y: Option<&UpFrame>) -> Effective
         ensures step { received self.old (heard_of (option_copied y.entry)) ≡
             (effective_fields result, self.new) }
 
-        // If a past of the call leads to the memory before, the past with this period leads to the memory after, and the answer
-        // is the effective frame of this period.
+        // If a past of the call leads to the memory before, the past with this period leads to the memory after, and
+        // the answer is the effective frame of this period.
         ensures history { (call : ℕ) (past : List Heard) → Stands call past self.old →
             Stands call (heard_of (option_copied y.entry) ∷ past) self.new
             × (effective_fields result ≡

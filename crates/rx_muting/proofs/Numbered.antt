@@ -1,4 +1,5 @@
--- For crates above: draws of a random source by their numbers, also when it goes on after others (`draw_of-state_after`).
+-- For crates above: draws of a random source by their numbers, also when it goes on after others
+-- (`draw_of-state_after`).
 use Rattle.std.proofs.Common.{◌≡◌, ℕ, ◌+◌, ◌*◌, ◌/◌, ◌<◌, zero, suc, ap, ◌∙◌, arith}
 use Rattle.trau_num.specs.Random.{state_after_draw, drawn_number}
 use Rattle.rx_muting.specs.Draws.{state_after, draw_of}

@@ -1,4 +1,5 @@
-//! Draws: how many values a grid can have, and laws of numbered draws, each the contract of a function that does nothing.
+//! Draws: how many values a grid can have, and laws of numbered draws, each the contract of a function that does
+//! nothing.
 
 ghost use Rattle.std.specs.Prelude.{◌≡◌, ℕ, ◌+◌, ◌<◌};
 ghost use Rattle.rx_muting.specs.Draws.{state_after, draw_of};

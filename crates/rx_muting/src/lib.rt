@@ -1,5 +1,7 @@
 //! What frame substitution and comfort noise have in common: muting by steps, and numbered draws.
 //!
+//! Layer: The receive side.
+//!
 //! `rx_subst` makes the receive side's frames for lost speech, and `rx_noise` those for silence descriptors. Both lower
 //! the block maxima by steps, draw some fields from the call's random source, and end with the frame of silence.
 //! `levels` has the muting, `draws` the laws of numbered draws.

@@ -16,10 +16,10 @@ pub const SILENT_FROM_FALL: u8 = 17;
 // The lags of the four blocks (GSM 06.12).
 const NOISE_LAGS: [u8; 4] = [40, 120, 40, 120];
 
-/// The noise frame of the silence descriptor `sid`, whose level has fallen for `fall` periods; SILENT_FROM_FALL stands for so
-/// many or more. It has the descriptor's ratios, the lags of all noise, 0 as the code of each gain, and the descriptor's
-/// xmaxc lowered by one step of muting for each period of the fall; `draw` gives the grids and pulses. From SILENT_FROM_FALL on
-/// it is silence, and nothing is drawn.
+/// The noise frame of the silence descriptor `sid`, whose level has fallen for `fall` periods; SILENT_FROM_FALL stands
+/// for so many or more. It has the descriptor's ratios, the lags of all noise, 0 as the code of each gain, and the
+/// descriptor's xmaxc lowered by one step of muting for each period of the fall; `draw` gives the grids and pulses.
+/// From SILENT_FROM_FALL on it is silence, and nothing is drawn.
 #[tactic(auto, unfolding(crate::specs::Noise::noise_of))]
 pub fn noise_frame(sid: &Params, fall: u8, draw: &mut Draw) -> Params
     requires { fall ≤ silent_from_fall }

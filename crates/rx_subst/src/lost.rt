@@ -13,10 +13,10 @@ use trau_params::{Params, silence};
 /// Lost periods are counted from 1 after a good frame: from this one on the frame is silence (this project's profile).
 pub const SILENT_FROM_LOST: u8 = 17;
 
-/// The frame for the `n`-th lost period after the good frame `last`; SILENT_FROM_LOST stands for this one and each later one.
-/// In the first it is the good frame itself. From the second on the codes of its block maxima (xmaxc) are lowered by one step
-/// of muting for each period since the first, and `draw` gives its grids. From SILENT_FROM_LOST on it is silence. Nothing is
-/// drawn in the first and for silence.
+/// The frame for the `n`-th lost period after the good frame `last`; SILENT_FROM_LOST stands for this one and each
+/// later one. In the first it is the good frame itself. From the second on the codes of its block maxima (xmaxc) are
+/// lowered by one step of muting for each period since the first, and `draw` gives its grids. From SILENT_FROM_LOST on
+/// it is silence. Nothing is drawn in the first and for silence.
 #[tactic(auto, unfolding(crate::specs::Lost::lost_of, rx_muting::specs::Draws::state_after))]
 pub fn lost_frame(last: &Params, n: u8, draw: &mut Draw) -> Params
     requires low { 1 ≤ n }

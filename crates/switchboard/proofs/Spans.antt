@@ -12,7 +12,7 @@ use Rattle.switchboard.specs.declared.act.Span.{Span}
 use Rattle.switchboard.specs.Ends.{span_to}
 use Rattle.switchboard.specs.Rows.{Rows, IsSized, never, bridge_at_place, bridge_end_in, span_in, position_in}
 use Rattle.switchboard.specs.Bridges.{no_bridge}
-use Rattle.switchboard.proofs.Sizes.{rows}
+use Rattle.switchboard.proofs.Tables.Sizes.{rows}
 use Rattle.switchboard.proofs.Lists.{somes, filter_map-somes, somes-take, somes-take-lt, somes-fewer-lt}
 
 -- the place of a span among the spans is how many bridges before it are over

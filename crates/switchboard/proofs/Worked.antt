@@ -40,7 +40,8 @@ the_laws : map (λ c. law_at c (done_of (λ c. 2) 1000 orders)) (1 ∷ 3 ∷ [])
 unfolding orders
 the_laws = refl
 
--- At a stamp equal to its natural end a call is still open and bridged; past it neither. A bridge joins calls of unlike laws.
+-- At a stamp equal to its natural end a call is still open and bridged; past it neither. A bridge joins calls of unlike
+-- laws.
 late : List Order
 late =
     at 0 (OpenCall 1 A) ∷ at 0 (OpenCall 2 A) ∷ at 0 (OpenCall 3 Mu) ∷ at 0 (Bridge 1 2) ∷

@@ -1,6 +1,6 @@
 -- Which calls are bridged. Lists of executed orders begin with the oldest.
-use Rattle.std.specs.Prelude.{◌≡◌, ℕ, ◌<◌, Bool, true, false, ◌&&◌, ◌||◌, if◌then◌else◌, ◌==◌, Option, Some, None, is_none, option_map, find, Result, Ok, List}
-use Rattle.std.specs.Prelude.{[], ◌∷◌, ◌++◌, length, slice_index_or}
+use Rattle.std.specs.Prelude.{ℕ, Bool, false, ◌&&◌, ◌||◌, if◌then◌else◌, ◌==◌, Option, Some, None, is_none, option_map, find, Result, Ok, List}
+use Rattle.std.specs.Prelude.{[], ◌∷◌, ◌++◌, slice_index_or}
 use Rattle.switchboard.specs.declared.act.Act.{Act}
 use Rattle.switchboard.specs.declared.act.Act.TheVariants as act
 use Rattle.switchboard.specs.declared.act.Refusal.{Refusal}
@@ -54,9 +54,3 @@ no_bridge = record { a = 0; b = 0; from = 0; ended = None }
 -- the bridge at an index of a list
 abbrev pub bridge_at : List Bridge → ℕ → Bridge
 bridge_at xs k = slice_index_or xs k no_bridge
-
--- At most one bridge of a call lasts.
-abbrev pub OneLasts : (ℕ → Bool) → List Done → List Bridge → Type 0
-OneLasts gone ds xs = (c j k : ℕ) → j < length xs → k < length xs →
-    joins c (bridge_at xs j) ≡ true → joins c (bridge_at xs k) ≡ true →
-    lasts gone ds (bridge_at xs j) ≡ true → lasts gone ds (bridge_at xs k) ≡ true → j ≡ k

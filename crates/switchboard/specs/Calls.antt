@@ -47,7 +47,8 @@ law_at c ds = elim (find (λ d. is_this c (opened_by d.result)) ds) [
 abbrev pub closed_at : ℕ → List Done → Option ℕ
 closed_at c ds = option_map (λ d. d.order.stamp) (find (λ d. is_this c (closed_by d.result)) ds)
 
--- A call is open if an order opened it, none closed it, and it isn't gone: `gone` are the calls that ended without an order.
+-- A call is open if an order opened it, none closed it, and it isn't gone: `gone` are the calls that ended without an
+-- order.
 abbrev pub is_open : (ℕ → Bool) → List Done → ℕ → Bool
 is_open gone ds c = is_some (opened_at c ds) && not (is_some (closed_at c ds)) && not (gone c)
 
@@ -55,7 +56,7 @@ is_open gone ds c = is_some (opened_at c ds) && not (is_some (closed_at c ds)) &
 abbrev pub has_ended : (ℕ → Bool) → List Done → ℕ → Bool
 has_ended gone ds c = is_some (opened_at c ds) && not (is_open gone ds c)
 
--- A call's natural end is the period at which it was opened plus the `whole` periods that its lines give. The call is gone at period t if
--- its natural end is before t. At its natural end itself it is still open.
+-- A call's natural end is the period at which it was opened plus the `whole` periods that its lines give. The call is
+-- gone at period t if its natural end is before t. At its natural end itself it is still open.
 abbrev pub gone_at : (ℕ → ℕ) → ℕ → List Done → ℕ → Bool
 gone_at whole t ds c = elim (opened_at c ds) [ None ↦ false | Some s ↦ nat_lt (s + whole c) t ]

@@ -21,15 +21,15 @@ pub record Given : Type 0 where
 abbrev pub whole_of : Given → ℕ
 whole_of g = min (g.up / 40) (g.pcm / 160)
 
--- Why the lines end a call after n whole periods. The line is Up if it lacks the next period, else Pcm. The cause is a fault if that line
--- failed; else it is the line's end, with its remaining octets.
+-- Why the lines end a call after n whole periods. The line is Up if it lacks the next period, else Pcm. The cause is a
+-- fault if that line failed; else it is the line's end, with its remaining octets.
 abbrev pub lack_of : ℕ → Given → Cause
 lack_of n g =
     if nat_lt g.up (40 * (n + 1)) then (if g.up_failed then Fault Up else End Up (g.up - 40 * n))
     else if g.pcm_failed then Fault Pcm else End Pcm (g.pcm - 160 * n)
 
--- The end of a call that was opened at s. If an order closed it, it ends there. If not, it ends at the first period that a line lacks, at
--- the latest at the run's P periods.
+-- The end of a call that was opened at s. If an order closed it, it ends there. If not, it ends at the first period
+-- that a line lacks, at the latest at the run's P periods.
 abbrev pub end_of : (ℕ → Given) → ℕ → List Done → ℕ → ℕ → CallEnd
 end_of given P ds c s = elim (closed_at c ds) [
   | Some t ↦ record { call = c; at = t; cause = Closed }

@@ -76,7 +76,8 @@ partner_after (act.Bridged a b) partner c =
 partner_after (act.Unbridged a b) partner c = partner_without_both a (Some b) partner c
 partner_after _ partner c = partner c
 
--- What an accepted order finds: a new number, or open calls. Calls to be bridged have no partners; calls to be parted are each other's partners.
+-- What an accepted order finds: a new number, or open calls. Calls to be bridged have no partners; calls to be parted
+-- are each other's partners.
 abbrev pub Finds : Act → (ℕ → Bool) → (ℕ → Bool) → (ℕ → Option ℕ) → Type 0
 Finds (act.Opened n law) opened is_open partner = IsCallNumber n × (opened n ≡ false)
 Finds (act.Closed n p) opened is_open partner = (is_open n ≡ true) × (partner n ≡ p)
@@ -87,7 +88,8 @@ Finds (act.Unbridged a b) opened is_open partner = ((is_open a ≡ true) × (is_
 Finds (act.LevelSet n v) opened is_open partner = is_open n ≡ true
 Finds (act.DtxSet n m) opened is_open partner = is_open n ≡ true
 
--- What an accepted order finds, but for which numbers were ever opened: what is known of a board by its open calls alone.
+-- What an accepted order finds, but for which numbers were ever opened: what is known of a board by its open calls
+-- alone.
 abbrev pub FindsOpen : Act → (ℕ → Bool) → (ℕ → Option ℕ) → Type 0
 FindsOpen (act.Opened n law) is_open partner = is_open n ≡ false
 FindsOpen (act.Unbridged a b) is_open partner = partner a ≡ Some b
@@ -109,8 +111,8 @@ abbrev pub Rests : Act → (ℕ → Option ℕ) → List Bridge → ℕ → Type
 Rests (act.Bridged a b) told xs t = HasRested told xs t a × HasRested told xs t b
 Rests _ told xs t = Unit {0}
 
--- What an accepted order of period t finds, and how it changes which numbers were opened, which calls are open, their laws and their
--- partners.
+-- What an accepted order of period t finds, and how it changes which numbers were opened, which calls are open, their
+-- laws and their partners.
 pub record IsExecuted (old new : State) (t : ℕ) (a : Act) : Type 0 where
   pub finds : Finds a (opened_now old) (open_now old) (partner_now old)
   pub rests : Rests a (told_in old) (bridges old.done) t

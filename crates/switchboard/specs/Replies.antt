@@ -12,8 +12,8 @@ use Rattle.switchboard.specs.declared.table.Bridge.{Bridge}
 use Rattle.switchboard.specs.Calls.{Done, is_open, has_ended}
 use Rattle.switchboard.specs.Bridges.{bridge_of, bridge_ended, other}
 
--- What is known when an order comes: the open calls, the ended calls, a call's bridge, and a call's bridge that an earlier order of the
--- same stamp ended.
+-- What is known when an order comes: the open calls, the ended calls, a call's bridge, and a call's bridge that an
+-- earlier order of the same stamp ended.
 pub record Known : Type 0 where
   pub is_open : ℕ → Bool
   pub has_ended : ℕ → Bool

@@ -35,8 +35,8 @@ pub record IsSound (r : Rows) (now : ℕ) (x : Bridge) : Type 0 where
   pub ended : (s : ℕ) → x.ended ≡ Some s → (bridge_end_in r x ≡ Some s) × (s ≤ now)
   pub lasts : bridge_end_in r x ≡ None → (is_open_in r x.a ≡ true) × (is_open_in r x.b ≡ true)
 
--- What holds of a table at a time: a call's earlier bridges had ended before its later ones began; a call that wasn't opened wasn't closed
--- and has no end.
+-- What holds of a table at a time: a call's earlier bridges had ended before its later ones began; a call that wasn't
+-- opened wasn't closed and has no end.
 pub record IsTable (r : Rows) (now : ℕ) : Type 0 where
   pub latest : (c : ℕ) → c < NUMBERS → IsLatest r.bridges c (call_in r c).bridge
   pub sound : (k : ℕ) → k < length r.bridges → IsSound r now (bridge_at_place r k)
@@ -70,8 +70,8 @@ board_state os xs r = record {
   told = map (λ e. e.gone) r.calls;
 }
 
--- Orders, replies and a table make a board: the replies are those to the first orders, the table is that of these replies, and each call
--- number has an entry.
+-- Orders, replies and a table make a board: the replies are those to the first orders, the table is that of these
+-- replies, and each call number has an entry.
 pub record IsBoard (os : List Order) (xs : List Reply) (r : Rows) : Type 0 where
   pub orders : AreOrders os
   pub few : length xs ≤ length os

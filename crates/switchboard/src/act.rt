@@ -47,8 +47,8 @@ pub struct Reply {
     pub result: Result<Act, Refusal>,
 }
 
-/// A bridge that has ended. `a` and `b` are its calls in the order of the order that made it; `from` is its first period
-/// of the run and `to` the first one after it. They are equal if the bridge has no period.
+/// A bridge that has ended. `a` and `b` are its calls in the order of the order that made it; `from` is its first
+/// period of the run and `to` the first one after it. They are equal if the bridge has no period.
 #[derive(Clone, Copy, PartialEq, Eq)]
 pub struct Span {
     pub a: u32,

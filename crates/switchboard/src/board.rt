@@ -5,7 +5,6 @@ ghost use Rattle.std.specs.List.{All};
 ghost use Rattle.trau_alaw.specs.declared.Law.TheVariants.{A};
 ghost use Rattle.trau_orders.specs.Lists.{NamesCalls, HasLevel};
 ghost use Rattle.switchboard.specs.Calls.{opened_at, is_open};
-ghost use Rattle.switchboard.specs.Bridges.{OneLasts, bridges};
 ghost use Rattle.switchboard.specs.Replies.{IsInRange};
 ghost use Rattle.switchboard.specs.State.{new_board, orders_of, first_order, first_stamp, last_stamp, due, after_turn, reply_of, EndBefore, told_in, gone_in};
 ghost use Rattle.switchboard.specs.State.{told_more, end_so_far, replies_from};
@@ -13,7 +12,7 @@ ghost use Rattle.switchboard.specs.Runs.{IsRun, TellsEnds, AllEnded, AllEndedAt,
 ghost use Rattle.switchboard.specs.Stands.{AreRising};
 ghost use Rattle.switchboard.specs.Ends.{Given, start_of, whole_end, spans_now, spans_of};
 ghost use Rattle.switchboard.specs.Open.{opened_now, open_now, law_now, partner_now, open_without, partner_without};
-ghost use Rattle.switchboard.specs.Open.{ArePairs, IfAccepted, IsExecuted, IsAsBefore};
+ghost use Rattle.switchboard.specs.Open.{IfAccepted, IsExecuted, IsAsBefore};
 
 use crate::table::Table;
 use crate::{Reply, Span};
@@ -28,7 +27,7 @@ use trau_orders::{Order, Orders};
 #[derive(Drop)]
 pub struct Board {
     orders: Orders,
-    table: Table,
+    pub(crate) table: Table,
     // The index of the next order is the number of replies.
     replies: Vec<Reply>,
 }
@@ -219,19 +218,5 @@ impl Board {
             result.now ≡ spans_of given periods self.now.done }
     {
         self.table.spans()
-    }
-
-    /// A law of the rules: a call has at most one bridge that lasts.
-    pub fn has_one_bridge_a_call(&self)
-        ensures { OneLasts (gone_in self.now) self.now.done (bridges self.now.done) }
-    {
-        let _ = &self.table;
-    }
-
-    /// A law of the rules: a bridge joins two open calls, each the partner of the other.
-    pub fn bridges_join_two(&self)
-        ensures { ArePairs (open_now self.now) (partner_now self.now) }
-    {
-        let _ = &self.table;
     }
 }

@@ -1,4 +1,5 @@
--- Time alignment by all past events (this project's profile, modelled on GSM 08.60). A history has the newest event first.
+-- Time alignment by all past events (this project's profile, modelled on GSM 08.60). A history has the newest event
+-- first.
 use Rattle.std.specs.Prelude.{ℕ, ℤ, pos, Bool, true, false, if◌then◌else◌, Option, Some, List, [], ◌∷◌}
 use Rattle.time_align.specs.Shift.{latest_shift}
 

@@ -40,7 +40,8 @@ shift_of field =
 abbrev pub asked_then : ℕ → Option ℤ → Option ℤ
 asked_then field before = elim (shift_of field) [ None ↦ before | Some shift ↦ Some shift ]
 
--- the shift of the latest field that asks for one; the fields have the newest period first, and a period without a frame has no field
+-- the shift of the latest field that asks for one; the fields have the newest period first, and a period without a
+-- frame has no field
 abbrev pub latest_ask : List (Option ℕ) → Option ℤ
 latest_ask [] = None
 latest_ask (None ∷ before) = latest_ask before

@@ -1,6 +1,8 @@
 //! Time alignment: the shifts of the downlink that a base station asks for (this project's profile, modelled on GSM
 //! 08.60).
 //!
+//! Layer: The downlink and the transmit side.
+//!
 //! An uplink frame carries an alignment field of six bits. Some fields ask for a later or an earlier downlink, by a
 //! number of octets of the exchange's line, 125 microseconds each. `Align` keeps the shift that was asked for last
 //! until a downlink frame adopts it. Within a bridge shifts are frozen: frames have none, and the shift asked for waits

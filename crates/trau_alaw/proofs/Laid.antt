@@ -1,5 +1,5 @@
--- Laws whose intervals stand one after the other: the octet, some of whose bits are inverted, is a sign, 1 for positive,
--- and the number of its interval.
+-- Laws whose intervals stand one after the other: the octet, some of whose bits are inverted, is a sign, 1 for
+-- positive, and the number of its interval.
 use Rattle.std.proofs.Common.{◌≡◌, ℕ, ◌+◌, ◌-◌, ◌%◌, ◌<◌, ◌≤◌, zero, suc, Bool, true, nat_le, bit_xor, ℤ, pos, negsuc, ◌<ℤ◌, ◌≤ℤ◌, get_or, refl, sym, ap, ◌∙◌}
 use Rattle.std.proofs.Common.{subst, inl, inr, arith}
 use Rattle.std.specs.List.{list_all, range_with_len}

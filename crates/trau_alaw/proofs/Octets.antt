@@ -1,4 +1,5 @@
--- For crates above: each word is in the interval of only one A-law octet (`parts`), and that is the law's octet of it (`octet_of-only`).
+-- For crates above: each word is in the interval of only one A-law octet (`parts`), and that is the law's octet of it
+-- (`octet_of-only`).
 -- The octets of A-law, and the one whose interval holds a value.
 use Rattle.std.proofs.Common.{◌≡◌, ℕ, ◌+◌, ◌/◌, ◌%◌, ◌<◌, ◌≤◌, true, nat_eq, nat_le, bit_xor, ℤ, pos, ◌<ℤ◌, ◌≤ℤ◌, refl, arith}
 use Rattle.std.specs.List.{list_all, range_with_len}

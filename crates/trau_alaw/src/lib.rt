@@ -1,5 +1,7 @@
 //! A-law and mu-law of a PCM line (G.711, tables 1a, 1b, 2a and 2b).
 //!
+//! Layer: Numbers, bits and lines.
+//!
 //! Converts between the Pcm and Out lines of a call and the codec: an octet of a line stands for a sample of 16 bits,
 //! and a sample is sent as the octet whose interval contains it. Both directions are computed without a table.
 //!

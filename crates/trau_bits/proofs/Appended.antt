@@ -1,4 +1,5 @@
--- For crates above: whole octets of bits don't change when bits are appended (`octets_of-append`), and their number (`length-whole_octets`).
+-- For crates above: whole octets of bits don't change when bits are appended (`octets_of-append`), and their number
+-- (`length-whole_octets`).
 use Rattle.std.proofs.Common.{◌≡◌, inl, inr, ℕ, ◌+◌, ◌-◌, ◌*◌, ◌/◌, ◌<◌, ◌≤◌, List, ◌++◌, length, get_or, sym, ap, ◌∙◌, lit<, arith}
 use Rattle.std.proofs.lemmas.Bool.{cases_lt}
 use Rattle.std.proofs.lemmas.Grind.{same_number_lists}

@@ -1,4 +1,5 @@
--- For crates above: an octet list has 8 bits for each octet (`length-bits_of`), and they determine it (`bits_of-injective`).
+-- For crates above: an octet list has 8 bits for each octet (`length-bits_of`), and they determine it
+-- (`bits_of-injective`).
 use Rattle.std.proofs.Common.{◌≡◌, ℕ, ◌+◌, ◌-◌, ◌*◌, ◌/◌, ◌%◌, ◌<◌, ◌≢◌, List, length, get_or, set, sym, ap, ◌∙◌, subst, arith, inl, inr}
 use Rattle.std.specs.Int.{bit_at}
 use Rattle.std.proofs.lemmas.List.{length-set, get_or-set_same, get_or-set_other}

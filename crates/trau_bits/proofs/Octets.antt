@@ -1,4 +1,5 @@
--- For crates above: bits that are packed and unpacked are the same again (`bits_of-octets_of`), and so are octets (`octets_of-bits_of`).
+-- For crates above: bits that are packed and unpacked are the same again (`bits_of-octets_of`), and so are octets
+-- (`octets_of-bits_of`).
 use Rattle.std.proofs.Common.{◌≡◌, ℕ, ◌+◌, ◌-◌, ◌*◌, ◌/◌, ◌%◌, ◌^◌, ◌<◌, ◌≤◌, suc, zero, List, map, length, get_or, sym, ap, ◌∙◌, lit<, arith}
 use Rattle.std.specs.List.{range_with_len, sum}
 use Rattle.std.specs.Int.{bit_at}

@@ -1,5 +1,7 @@
 //! Bits of octets, in the order in which GSM 08.60 counts them: bit 0 is the most significant bit of the first octet.
 //!
+//! Layer: Numbers, bits and lines.
+//!
 //! A line carries octets, and a frame is a list of bits. A bit is a `u8` that is 0 or 1. Every crate that reads or
 //! writes frames on a line uses this crate.
 //!

@@ -8,8 +8,8 @@ use Rattle.fr_decoder.specs.Memory.{DecoderMemory}
 use Rattle.fr_decoder.specs.Stands.{Stands}
 use Rattle.fr_decoder.specs.Step.{decoded_frame}
 
--- The octets carry a frame, and the samples x and the memory `after` are those of the decoder with the memory `before` and this frame.
--- After the frames of any past, its samples are those of the decoded list.
+-- The octets carry a frame, and the samples x and the memory `after` are those of the decoder with the memory `before`
+-- and this frame. After the frames of any past, its samples are those of the decoded list.
 pub record DecodedOctets (octets : List ℕ) (before : DecoderMemory) (x : List ℤ) (after : DecoderMemory) : Type 0 where
   pub frame : Params
   pub carried : Carries octets (fields_of frame)

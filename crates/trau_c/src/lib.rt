@@ -1,6 +1,8 @@
 //! The full rate codec, both sides of a call, the packings of frames, A-law and mu-law as a C library. `clib/trau_fr.h`
 //! at the top of the repository declares its exports.
 //!
+//! Layer: Both sides of a call by themselves.
+//!
 //! The C program holds the states of encoders, decoders, receivers and senders, which are structs of numbers. It gets
 //! them from `trau_fr_encoder_home`, `trau_fr_decoder_home`, `trau_fr_receiver_home` and `trau_fr_sender_home`. No
 //! export allocates, waits or keeps anything, so functions can be called on different states at the same time. Each

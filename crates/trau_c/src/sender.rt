@@ -18,8 +18,8 @@ pub extern "C" fn trau_fr_sender_home() -> Sender
 
 /// Encodes the 160 samples `x` of a period, 13 bits left-justified in 16, and writes the 33 octets of the frame that is
 /// sent for them. The result is true for speech (SP 1), false for a silence descriptor. With `dtx` off, each frame is
-/// speech. With `dtx` on, one whose peak after preprocessing is below `level` is inactive, and descriptors are sent in a
-/// pause (GSM 06.31).
+/// speech. With `dtx` on, one whose peak after preprocessing is below `level` is inactive, and descriptors are sent in
+/// a pause (GSM 06.31).
 #[unsafe(no_mangle)]
 pub extern "C" fn trau_fr_send(
     sender: &mut Sender,

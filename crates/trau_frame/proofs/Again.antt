@@ -1,4 +1,5 @@
--- For crates above: a written frame has 320 bits (`length-down_bits`), is in sync (`synced-down_bits`), and is read again as it was written.
+-- For crates above: a written frame has 320 bits (`length-down_bits`), is in sync (`synced-down_bits`), and is read
+-- again as it was written.
 use Rattle.std.proofs.Common.{◌≡◌, ℕ, ◌+◌, ◌-◌, ◌<◌, List, map, length, get_or, sym, ap, ◌∙◌, arith}
 use Rattle.std.specs.List.{range_with_len}
 use Rattle.std.proofs.lemmas.List.FromFn.{length-map-range_with_len, get_or-map-range_with_len}

@@ -1,4 +1,5 @@
--- For crates above: the sync pattern matches at a place of a line exactly if the 320 bits there are in sync (`match_is_synced`).
+-- For crates above: the sync pattern matches at a place of a line exactly if the 320 bits there are in sync
+-- (`match_is_synced`).
 use Rattle.std.proofs.Common.{◌≡◌, ℕ, zero, suc, ◌+◌, ◌*◌, ◌<◌, ◌≤◌, Bool, true, false, ◌&&◌, length, get_or, refl, sym, ap, ◌∙◌, subst, arith, inl, inr}
 use Rattle.std.specs.List.{list_all, range_with_len}
 use Rattle.std.proofs.lemmas.Bool.{cases_lt}

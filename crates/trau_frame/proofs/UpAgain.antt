@@ -1,4 +1,5 @@
--- For crates above: the bits of an uplink frame are in sync (`synced-up_bits`), and read again as that frame (`says-up_bits`).
+-- For crates above: the bits of an uplink frame are in sync (`synced-up_bits`), and read again as that frame
+-- (`says-up_bits`).
 use Rattle.std.proofs.Common.{◌≡◌, ℕ, ◌+◌, ◌-◌, ◌*◌, ◌<◌, ◌≤◌, zero, suc, if◌then◌else◌, ◌==◌, Bool, true, false, length, refl, sym, ap, ◌∙◌, arith}
 use Rattle.std.proofs.lemmas.List.FromFn.{get_or-map-range_with_len}
 use Rattle.trau_frame.specs.declared.frames.Kind.{Kind}

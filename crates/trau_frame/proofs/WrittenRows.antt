@@ -1,4 +1,5 @@
--- For crates above: a frame that is written with bits is made of bits (`frame_bits-below`), also of ones alone (`ones-below`).
+-- For crates above: a frame that is written with bits is made of bits (`frame_bits-below`), also of ones alone
+-- (`ones-below`).
 -- A frame is written row by row.
 use Rattle.std.proofs.Common.{◌≡◌, ℕ, ◌+◌, ◌-◌, ◌*◌, ◌<◌, ◌≤◌, List, map, replicate, length, get_or, set, refl, sym, ap, ◌∙◌, subst, arith, slice_range, inl}
 use Rattle.std.proofs.Common.{inr}

@@ -1,4 +1,5 @@
--- The places on a line that have the sync pattern of a frame (GSM 08.60). A line is a function that gives the bit at each place, from 0 on.
+-- The places on a line that have the sync pattern of a frame (GSM 08.60). A line is a function that gives the bit at
+-- each place, from 0 on.
 use Rattle.std.specs.Prelude.{ℕ, ◌+◌, Bool, true, ◌==◌, List, map, slice_index}
 use Rattle.std.specs.List.{list_all, range_with_len}
 use Rattle.trau_frame.specs.Role.{Role, Sync, Control, Data, Time, role_of}

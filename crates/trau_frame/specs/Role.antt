@@ -8,8 +8,9 @@ pub data Role : Type 0 where
   Data : ℕ → Role
   Time : ℕ → Role
 
--- the role of place i: sixteen sync zeros, then a sync one at every sixteenth place. The first of these ones is followed by C1 to C15, the others by
--- data bits, fifteen to a row. The last row has the last five data bits, C16 to C21 and T1 to T4.
+-- the role of place i: sixteen sync zeros, then a sync one at every sixteenth place. The first of these ones is
+-- followed by C1 to C15, the others by data bits, fifteen to a row. The last row has the last five data bits, C16 to
+-- C21 and T1 to T4.
 unfoldable pub role_of : ℕ → Role
 role_of i =
     if nat_lt i 16 then Sync 0

@@ -1,5 +1,7 @@
 //! The TRAU frame of 320 bits, as GSM 08.60 lays it out for full rate speech.
 //!
+//! Layer: Frames and the search for them.
+//!
 //! This crate lies between the octets of a 16 kbit/s line (`trau_bits`) and the codec's 260 bits. It checks whether 320
 //! bits carry the sync pattern, and whether a frame that begins at any place has the sync zeros, or the sync ones. It
 //! reads uplink frames, and writes frames of both directions. The places of the sync, control, data and time bits are
@@ -10,8 +12,8 @@
 //! of fifteen data bits, and a last row with the rest. Each row except the first begins with a sync one.
 //!
 //! Definitions: `specs/Role.antt` (the role of each place), `specs/Frame.antt`, `specs/UpFrame.antt` (what is read),
-//! `specs/UpBits.antt` and `specs/DownFrame.antt` (what is written), `specs/Relay.antt`, and `specs/Match.antt` (the sync
-//! pattern at any place of a line).
+//! `specs/UpBits.antt` and `specs/DownFrame.antt` (what is written), `specs/Relay.antt`, and `specs/Match.antt` (the
+//! sync pattern at any place of a line).
 #![tactic(auto)]
 
 mod frames;

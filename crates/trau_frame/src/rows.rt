@@ -16,8 +16,8 @@ const FIRST_ROW: usize = 32;
 // The first place of the last row.
 const LAST_ROW: usize = 304;
 
-/// Control bit C`c` of a frame of either direction, C1 to C21 (GSM 08.60). C1 to C15 are in the second row, the others in
-/// the last.
+/// Control bit C`c` of a frame of either direction, C1 to C21 (GSM 08.60). C1 to C15 are in the second row, the others
+/// in the last.
 #[tactic(auto, unfolding(crate::specs::Role::place_of_role))]
 pub fn control(bits: &[u8; 320], c: usize) -> u8
     requires bits { AreBits bits.now }

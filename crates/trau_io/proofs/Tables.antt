@@ -1,4 +1,5 @@
--- For crates above: one line of a table of all lines is replaced (`replaced`); no two lines have one index (`same_line`).
+-- For crates above: one line of a table of all lines is replaced (`replaced`); no two lines have one index
+-- (`same_line`).
 use Rattle.std.proofs.Common.{◌≡◌, ◌≢◌, ℕ, ◌<◌, zero, suc, List, [], ◌∷◌, length, get_or, Option, Some, slice_get, slice_set, refl, sym, ◌∙◌, ap, arith}
 use Rattle.std.proofs.lemmas.Option.{slice_get_read}
 use Rattle.trau_io.specs.declared.line.Side.{Side}

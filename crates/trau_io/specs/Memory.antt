@@ -8,8 +8,8 @@ use Rattle.trau_io.specs.Lines.{LineState}
 use Rattle.trau_io.specs.Desks.{DeskState}
 use Rattle.trau_io.specs.Indices.{index_of_line}
 
--- a line in memory: the octets to come and written, the octets it still has room for, the operations that are cut or fail, and its counts
--- of operations and faults
+-- a line in memory: the octets to come and written, the octets it still has room for, the operations that are cut or
+-- fail, and its counts of operations and faults
 pub record MemoryLine : Type 0 where
   pub to_come : List ℕ
   pub written : List ℕ
@@ -27,7 +27,8 @@ new_line contents cuts fails room = record { to_come = contents; written = []; r
 abbrev pub is_failing : MemoryLine → Bool
 is_failing l = list_any (λ number. number == l.calls) l.fails
 
--- how many of at most n octets the next operation may move: a cut of 0 counts as 1, and after the list's end there is no cut
+-- how many of at most n octets the next operation may move: a cut of 0 counts as 1, and after the list's end there is
+-- no cut
 abbrev pub cut_of : MemoryLine → ℕ → ℕ
 cut_of l n = if nat_lt l.calls (length l.cuts) then min n (max (slice_index l.cuts l.calls) 1) else n
 

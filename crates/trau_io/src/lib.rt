@@ -1,5 +1,7 @@
 //! Recorded lines (`Trunk`), and where orders are read and texts are written (`Desk`).
 //!
+//! Layer: Numbers, bits and lines.
+//!
 //! The lowest layer of all reading and writing: tools, rounds and the top function do it through these two traits
 //! only. `MemTrunk` and `MemDesk` hold everything in memory; their maker sets failures and room, and for the lines
 //! of a `MemTrunk` also short reads and writes. `trau_files` implements the traits for files and the standard

@@ -1,4 +1,5 @@
--- For crates above: eight words in lanes are kept where they are passed on (`words_kept`), and lists of eight are taken apart (`by_eight`).
+-- For crates above: eight words in lanes are kept where they are passed on (`words_kept`), and lists of eight are taken
+-- apart (`by_eight`).
 use Rattle.std.proofs.Common.{◌≡◌, ◌≤◌, ℤ, FitsSigned, w16, to_z, of_z, map, List, [], ◌∷◌, length, refl, ap, ◌∙◌, sym, subst, arith, unsigned_abs, get_or}
 use Rattle.std.proofs.Common.{take}
 use Rattle.std.specs.Int.{Width}

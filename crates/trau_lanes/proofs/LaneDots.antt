@@ -1,5 +1,5 @@
--- For crates above: sums and products of 32-bit lanes don't wrap within bounds (`Within`), and so sums of products lane by lane (`Pairs`); sums of
--- two lists (`fold_sums`), and places counted from another (`shifted`).
+-- For crates above: sums and products of 32-bit lanes don't wrap within bounds (`Within`), and so sums of products lane
+-- by lane (`Pairs`); sums of two lists (`fold_sums`), and places counted from another (`shifted`).
 use Rattle.std.proofs.Common.{◌≡◌, ℕ, zero, suc, ◌+◌, ◌*◌, ◌%◌, ◌^◌, ◌≤◌, ℤ, pos, ◌+ℤ◌, ◌*ℤ◌, unsigned_abs, FitsSigned, w16, w32, to_z, of_z, fold, map, List}
 use Rattle.std.proofs.Common.{[], ◌∷◌, ◌++◌, length, get_or, refl, ap, sym, ◌∙◌, arith, lit<, mul-le-mul, add-zero, add-one}
 use Rattle.std.specs.List.{range_with_len}

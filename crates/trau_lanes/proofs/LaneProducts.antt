@@ -1,6 +1,6 @@
 -- For crates above: the lanes of a rounded product are the products of their lanes (`products_given`).
--- Rounded products of eight factors with eight words in lanes: the high half of the doubled factor's product, one word for
--- what doubling wraps off, and the highest bit of the low half.
+-- Rounded products of eight factors with eight words in lanes: the high half of the doubled factor's product, one word
+-- for what doubling wraps off, and the highest bit of the low half.
 use Rattle.std.proofs.Common.{◌≡◌, ℕ, ◌+◌, ◌*◌, ◌/◌, ◌%◌, ◌^◌, ◌≤◌, ℤ, pos, ◌+ℤ◌, ◌*ℤ◌, unsigned_abs, FitsSigned, w16, w32, to_z, of_z, map, List, length}
 use Rattle.std.proofs.Common.{replicate, ap, sym, subst, ◌∙◌, arith, lit<, bit_and}
 use Rattle.std.proofs.lemmas.Int.{SFits-int_wrap, int_wrap-add_left, int_wrap-add_right, ints, of_z-to_z, wrapping_mul_is, wrapping_add_is, int_wrap_fits}

@@ -1,4 +1,5 @@
--- For crates above: the lanes of a saturating sum are the sums of their lanes (`sums_given`); the lesser of two lanes (`less`).
+-- For crates above: the lanes of a saturating sum are the sums of their lanes (`sums_given`); the lesser of two lanes
+-- (`less`).
 -- Saturating sums and differences of eight words in lanes.
 use Rattle.std.proofs.Common.{◌≡◌, ℕ, ◌+◌, ◌-◌, ◌%◌, ◌^◌, ◌<◌, ℤ, ◌+ℤ◌, ◌-ℤ◌, FitsSigned, w16, w32, to_z, of_z, map, List, replicate, ap, sym, subst, ◌∙◌}
 use Rattle.std.proofs.Common.{arith, cond, lit<}

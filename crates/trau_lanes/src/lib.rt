@@ -1,6 +1,8 @@
 //! Words of 16 bits in the eight lanes of a vector: `add`, `sub` and `mult_r` of `trau_num` on each lane, and exact
 //! products and sums in lanes of 32 bits.
 //!
+//! Layer: Numbers, bits and lines.
+//!
 //! Three loops of the codec compute with it: the synthesis lattice (`fr_short`), the autocorrelation of a frame
 //! (`fr_lpc`) and the correlations of a block (`fr_long`).
 //!

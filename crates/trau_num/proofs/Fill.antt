@@ -1,4 +1,5 @@
--- For crates above: a loop that fills a list of fixed size place by place makes the list of a function's values (`Filled`, `fill_all`).
+-- For crates above: a loop that fills a list of fixed size place by place makes the list of a function's values
+-- (`Filled`, `fill_all`).
 use Rattle.std.proofs.Common.{◌≡◌, ℕ, ◌+◌, ◌<◌, ◌≤◌, get_or, set, length, map, List, ◌∙◌, inl, inr, arith}
 use Rattle.std.specs.List.{range_with_len}
 use Rattle.std.proofs.lemmas.Bool.{cases_eq}

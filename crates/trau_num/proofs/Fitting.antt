@@ -1,5 +1,7 @@
--- For crates above: a word that is shifted right is a word (`shifted_fits`), and is unchanged by saturation (`word_stays`).
--- What fits a word: products of two words of 32 bits that keep bounds, with their value and a bound of their own, and shifts.
+-- For crates above: a word that is shifted right is a word (`shifted_fits`), and is unchanged by saturation
+-- (`word_stays`).
+-- What fits a word: products of two words of 32 bits that keep bounds, with their value and a bound of their own, and
+-- shifts.
 use Rattle.std.proofs.Common.{mul-le-mul, ◌≡◌, ◌*◌, ◌≤◌, ◌<◌, ◌^◌, ◌*ℤ◌, ℕ, ℤ, unsigned_abs, ◌+ℤ◌, ◌-ℤ◌, ◌≤ℤ◌, pos, negsuc, neg_ℤ, ◌∙◌, FitsSigned, w16, w32}
 use Rattle.std.proofs.Common.{arith}
 use Rattle.std.proofs.lemmas.Int.{to_z-of_z, fits_signed_mul, ints, unsigned_abs-mul}

@@ -1,4 +1,5 @@
--- For crates above: the least number at which a function is greatest (`IsLeastGreatest`), and the first that passes a test (`first_found`).
+-- For crates above: the least number at which a function is greatest (`IsLeastGreatest`), and the first that passes a
+-- test (`first_found`).
 use Rattle.std.proofs.Common.{◌≡◌, ℕ, ℤ, zero, suc, ◌+◌, ◌<◌, ◌≤◌, ◌<ℤ◌, ◌≤ℤ◌, true, false, Bool, Some, None, arith, inl, inr, refl, ap, ◌∙◌}
 use Rattle.std.specs.Prelude.{int_lt, int_le}
 use Rattle.std.specs.List.{range_with_len, find, list_all}
@@ -115,7 +116,8 @@ one_fails p a (suc n) k l h f =
       | inr q ↦ and_right (p a) _ (one_fails p (a + 1) n k (omega arith) (omega arith) f)
     ]
 
--- f is above its value at the least number at which it is greatest at none of the numbers, and above that at any before it at one of them
+-- f is above its value at the least number at which it is greatest at none of the numbers, and above that at any before
+-- it at one of them
 pub none_above : (f : ℕ → ℤ) (a n m : ℕ) → IsLeastGreatest f a n m → list_all (λ k. int_le (f k) (f m)) (range_with_len a n) ≡ true
 none_above f a n m h = all_pass _ a n (λ k b c. at_most (f k) (f m) (h.greatest k b c))
 

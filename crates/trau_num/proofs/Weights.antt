@@ -1,4 +1,5 @@
--- For crates above: the summed weight of two lists in a row (`weigh-append`), and of a list that changes at one index (`weigh_set`).
+-- For crates above: the summed weight of two lists in a row (`weigh-append`), and of a list that changes at one index
+-- (`weigh_set`).
 use Rattle.std.proofs.Common.{◌≡◌, ℕ, zero, suc, ◌+◌, ◌≤◌, List, [], ◌∷◌, ◌++◌, set, sym, ap, arith}
 use mathlib.Core.Option.{some, some-ne-none}
 use lib.ListN.{get_elem?}

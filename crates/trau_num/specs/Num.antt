@@ -57,7 +57,8 @@ l_sub_of a b = clamp32 (a -ℤ b)
 unfoldable pub l_mult_of : ℤ → ℤ → ℤ
 l_mult_of a b = clamp32 (a *ℤ b *ℤ pos 2)
 
--- norm: the number of left shifts that bring v to 2^30 or above, which is the number of shifts by 0 to 29 that leave v below 2^30
+-- norm: the number of left shifts that bring v to 2^30 or above, which is the number of shifts by 0 to 29 that leave v
+-- below 2^30
 unfoldable pub norm_of : ℕ → ℕ
 norm_of v = count_by (λ k. nat_lt (v * 2 ^ k) (2 ^ 30)) (range_with_len 0 30)
 

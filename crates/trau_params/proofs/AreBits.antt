@@ -1,4 +1,5 @@
--- For crates above: the bits of a value are bits (`AreBits-low_bits`), and so are the 260 bits of fields (`AreBits-bits260`).
+-- For crates above: the bits of a value are bits (`AreBits-low_bits`), and so are the 260 bits of fields
+-- (`AreBits-bits260`).
 use Rattle.std.proofs.Common.{ℕ, ◌/◌, ◌%◌, ◌+◌, ◌^◌, ◌<◌, zero, suc, List, [], ◌∷◌, arith}
 use Rattle.std.specs.List.{range_with_len, flat_map}
 use Rattle.std.proofs.lemmas.List.Elements.{All-nil, All-append, All-map}

@@ -1,4 +1,5 @@
--- For crates above: each value of a block fits its width (`fits`); frames with the same 260 bits have the same fields (`same_fields`).
+-- For crates above: each value of a block fits its width (`fits`); frames with the same 260 bits have the same fields
+-- (`same_fields`).
 use Rattle.std.proofs.Common.{◌≡◌, ℕ, ◌+◌, ◌*◌, ◌/◌, ◌%◌, ◌^◌, ◌<◌, ◌≤◌, zero, suc, List, [], ◌∷◌, ◌++◌, All, length, take, get_or, refl, sym, ap, ◌∙◌, inl}
 use Rattle.std.proofs.Common.{inr, arith}
 use Rattle.std.specs.List.{range_with_len, flat_map}

@@ -4,8 +4,21 @@ ghost use Rattle.std.specs.Prelude.{◌≡◌};
 ghost use Rattle.trau_params.specs.Bits260.{bits260_of, SameFields};
 ghost use Rattle.trau_params.specs.Fields.{fields_of, fields_in};
 ghost use Rattle.trau_params.specs.Places.{FieldsStand};
+ghost use Rattle.trau_params.specs.Shape.{HasShape};
 
 use crate::params::Params;
+
+/// The arrays of a frame have their lengths: 8 ratios, each other parameter of 4 blocks, 13 pulses of a block (GSM
+/// 06.10, table 1.1).
+pub fn has_shape(p: Params)
+    ensures { HasShape p }
+{
+    // The length of a row of pulses is known only after the row is read.
+    let _first = p.block(0);
+    let _second = p.block(1);
+    let _third = p.block(2);
+    let _fourth = p.block(3);
+}
 
 /// Frames with the same 260 bits have the same fields.
 #[tactic(auto, using(crate::proofs::OneFrame::same_fields))]
@@ -13,8 +26,8 @@ pub fn one_frame(p: Params, q: Params)
     requires { bits260_of p ≡ bits260_of q }
     ensures { SameFields p q }
 {
-    p.shape();
-    q.shape();
+    crate::laws::has_shape(p);
+    crate::laws::has_shape(q);
 }
 
 /// Writes the bits of a frame and reads them: the result is the same frame.
@@ -24,7 +37,7 @@ pub fn rewritten(frame: &Params) -> Params
     let mut bits = [0; 260];
     frame.to_bits(&mut bits);
     let again = Params::from_bits(&bits);
-    one_frame(*frame, again);
+    crate::laws::one_frame(*frame, again);
     again
 }
 
@@ -33,12 +46,12 @@ pub fn rewritten(frame: &Params) -> Params
 pub fn fields_stand(p: Params)
     ensures { FieldsStand p (bits260_of p) }
 {
-    p.shape();
+    crate::laws::has_shape(p);
 }
 
 /// The fields that the 260 bits of a frame carry are the frame's own.
 pub fn fields_carried(p: &Params)
     ensures { fields_in (bits260_of p.now) ≡ fields_of p.now }
 {
-    p.shape();
+    crate::laws::has_shape(*p);
 }

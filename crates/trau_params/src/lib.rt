@@ -1,5 +1,7 @@
 //! The parameters of a full rate frame, and the 260 bits that carry them (GSM 06.10, table 1.1).
 //!
+//! Layer: Numbers, bits and lines.
+//!
 //! The encoder makes a frame of parameters from 160 samples (20 ms), and the decoder makes samples from it. The receive
 //! and transmit sides repeat, mute and average parameters. A TRAU frame carries the 260 bits as bits D1 to D260.
 //!
@@ -16,7 +18,7 @@
 
 mod block;
 mod fields;
-mod laws;
+pub mod laws;
 mod params;
 pub mod ratios;
 mod silent_frame;
@@ -24,7 +26,6 @@ mod trace;
 mod widths;
 
 pub use block::Block;
-pub use laws::{fields_carried, fields_stand, one_frame, rewritten};
 pub use params::Params;
 pub use silent_frame::silence;
 pub use trace::Trace;

@@ -36,7 +36,6 @@ impl Params {
     ghost use Rattle.trau_bits.specs.Bits.{AreBits};
     ghost use Rattle.trau_params.specs.Bits260.{bits260_of, block_values};
     ghost use Rattle.trau_params.specs.Fields.{fields_of, fields_in};
-    ghost use Rattle.trau_params.specs.Shape.{HasShape};
     ghost use Rattle.trau_params.specs.Block.{values_of};
     ghost use Rattle.std.specs.Prelude.{◌<◌, [], ◌∷◌};
 
@@ -121,17 +120,6 @@ impl Params {
         let third = Block::read(bits, LARC_BITS + 2 * BLOCK_BITS);
         let fourth = Block::read(bits, LARC_BITS + 3 * BLOCK_BITS);
         Params::of_blocks(read_larc(bits), first, second, third, fourth)
-    }
-
-    /// The lengths of the arrays, for proofs: 8 ratios, each other parameter of 4 blocks, 13 pulses of a block (GSM 06.10,
-    /// table 1.1). The length of a row of pulses is known only after the row is read.
-    pub fn shape(self)
-        ensures { HasShape self }
-    {
-        let _first = self.block(0);
-        let _second = self.block(1);
-        let _third = self.block(2);
-        let _fourth = self.block(3);
     }
 
     /// Block `j` of the frame, 0 to 3: its lag, gain, grid and maximum, and its 13 pulses (GSM 06.10, table 1.1).

@@ -1,4 +1,5 @@
--- What shuffles of vectors take: the columns of eight squares, eight octets of each channel, and eight groups of a slot.
+-- What shuffles of vectors take: the columns of eight squares, eight octets of each channel, and eight groups of a
+-- slot.
 use Rattle.std.proofs.Common.{◌≡◌, ℕ, ◌+◌, ◌-◌, ◌*◌, ◌/◌, ◌%◌, ◌<◌, ◌≤◌, zero, suc, List, [], ◌∷◌, ◌++◌, length, get_or, refl, ap, ◌∙◌, arith}
 use Rattle.std.specs.Simd.Lanes.{chunk, pick_l}
 use Rattle.std.proofs.lemmas.List.{get_or_append_left, get_or-append_right, get_or-map}

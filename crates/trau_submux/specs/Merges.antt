@@ -27,7 +27,8 @@ pub record FailsInside (up up' : LineState) : Type 0 where
   pub part : length given < 40
   pub rose : Rose up.faults up'.faults
 
--- one of the four lines failed while they were read in order: a block was read of each line before it, and nothing of those after it
+-- one of the four lines failed while they were read in order: a block was read of each line before it, and nothing of
+-- those after it
 pub record FailsAt (ups ups' : ℕ → LineState) (failed : ℕ) : Type 0 where
   pub one : failed < 4
   pub before : (j : ℕ) → j < failed → (block : List ℕ) × (count : ℕ) × GivesBlock (ups j) (ups' j) block count
@@ -53,8 +54,8 @@ pub record IsFewest (lists : ℕ → List ℕ) (count : ℕ) : Type 0 where
   pub below : one < 4
   pub is : count ≡ length (lists one)
 
--- what was read of the four lines, at most a block each, and the octets of the slot that it makes: of each line only as many octets
--- as the shortest has
+-- what was read of the four lines, at most a block each, and the octets of the slot that it makes: of each line only as
+-- many octets as the shortest has
 pub record Takes (ups ups' : ℕ → LineState) : Type 0 where
   pub given : ℕ → List ℕ
   pub each : (j : ℕ) → j < 4 → GivesPart (ups j) (ups' j) (given j)
@@ -84,8 +85,8 @@ pub record AreRead (ups' : ℕ → LineState) (given : ℕ → List ℕ) (used :
       ⊎ ((used < most_of_channel)
       × ((j : ℕ) → j < 4 → (length (given j) ≡ 40 * (used / 40 + 1)) ⊎ ((length (given j) < 40 * (used / 40 + 1)) × IsAtEnd (ups' j).to_come)))
 
--- the shortest line ended, or 4,294,967,295 blocks were read; the slot gained what the first `used` octets of each line make, and
--- `left` has the numbers of the others that were read
+-- the shortest line ended, or 4,294,967,295 blocks were read; the slot gained what the first `used` octets of each line
+-- make, and `left` has the numbers of the others that were read
 pub record EndsChannels (ups ups' : ℕ → LineState) (out out' : LineState) (given : ℕ → List ℕ) (octets : ℕ) (left : List ℕ) : Type 0 where
   pub used : ℕ
   pub read : AreRead ups' given used
@@ -104,8 +105,8 @@ pub record Before (given : ℕ → List ℕ) (earlier last : ℕ → List ℕ) :
   pub part : (j : ℕ) → j < 4 → length (last j) ≤ 40
   pub split : (j : ℕ) → j < 4 → given j ≡ earlier j ++ last j
 
--- the line of a channel failed inside a block: the slot gained what the earlier blocks make, and of the lines after it nothing of this
--- block was read
+-- the line of a channel failed inside a block: the slot gained what the earlier blocks make, and of the lines after it
+-- nothing of this block was read
 pub record MergeFailsToRead (ups ups' : ℕ → LineState) (out out' : LineState) (call : ℕ) (given : ℕ → List ℕ) (line : Line) : Type 0 where
   pub failed : ℕ
   pub number : line.call ≡ call + failed
@@ -123,7 +124,8 @@ pub record MergeFailsToRead (ups ups' : ℕ → LineState) (out out' : LineState
   pub rose : Rose (ups failed).faults (ups' failed).faults
   pub calm : (j : ℕ) → j < 4 → (j ≡ failed → ⊥) → (ups' j).faults ≡ (ups j).faults
 
--- the slot's line failed inside a block: it gained what the earlier blocks make, and a proper prefix of what this one makes
+-- the slot's line failed inside a block: it gained what the earlier blocks make, and a proper prefix of what this one
+-- makes
 pub record MergeFailsToWrite (ups ups' : ℕ → LineState) (out out' : LineState) (call : ℕ) (given : ℕ → List ℕ) (line : Line) : Type 0 where
   pub number : line.call ≡ call
   pub side : line.side ≡ Out

@@ -13,8 +13,8 @@ whole_groups octets = take (length octets / 4 * 4) octets
 abbrev pub split_text : ℕ → ℕ → List ℕ
 split_text octets left = codes "split octets " ++ (decimal octets ++ (codes " left " ++ (decimal left ++ codes "\n")))
 
--- It takes every block of 160 octets, and less than a block may be left. Each of the four lines gains its channel of all whole groups
--- of four octets.
+-- It takes every block of 160 octets, and less than a block may be left. Each of the four lines gains its channel of
+-- all whole groups of four octets.
 abbrev pub split_machine : Machine
 split_machine = record {
   shape = record { octets = 160; from = Pcm; lines = 4; to = Down };

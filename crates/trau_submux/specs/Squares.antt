@@ -2,8 +2,8 @@
 use Rattle.std.specs.Prelude.{◌≡◌, ℕ, ◌+◌, ◌*◌, ◌<◌, List, slice_index_or}
 use Rattle.trau_submux.specs.Pairs.{gathered}
 
--- The columns of eight squares. Lanes 0 to 7 of x are their first rows and lanes 8 to 15 the second ones; y has the third and the
--- fourth rows in the same way, u the first and the third columns, and w the second and the fourth ones.
+-- The columns of eight squares. Lanes 0 to 7 of x are their first rows and lanes 8 to 15 the second ones; y has the
+-- third and the fourth rows in the same way, u the first and the third columns, and w the second and the fourth ones.
 pub record EightColumns (x y u w : List ℕ) : Type 0 where
   pub first : (k : ℕ) → k < 8 →
       slice_index_or u k 0 ≡ gathered 0 (slice_index_or x k 0) (slice_index_or x (8 + k) 0) (slice_index_or y k 0) (slice_index_or y (8 + k) 0)
@@ -18,7 +18,8 @@ pub record EightColumns (x y u w : List ℕ) : Type 0 where
 abbrev pub gathered_at : ℕ → List ℕ → ℕ → ℕ
 gathered_at j slot at = gathered j (slice_index_or slot at 0) (slice_index_or slot (at + 1) 0) (slice_index_or slot (at + 2) 0) (slice_index_or slot (at + 3) 0)
 
--- eight octets of each channel, of 32 octets of a slot: u has those of the first and the third channel, and w of the second and the fourth
+-- eight octets of each channel, of 32 octets of a slot: u has those of the first and the third channel, and w of the
+-- second and the fourth
 pub record EightOfEach (slot : List ℕ) (at : ℕ) (u w : List ℕ) : Type 0 where
   pub first : (k : ℕ) → k < 8 → slice_index_or u k 0 ≡ gathered_at 0 slot (at + 4 * k)
   pub second : (k : ℕ) → k < 8 → slice_index_or w k 0 ≡ gathered_at 1 slot (at + 4 * k)

@@ -1,4 +1,5 @@
--- The command `merge`: its text, its end and the cause of that, and the result if nothing fails (this project's profile).
+-- The command `merge`: its text, its end and the cause of that, and the result if nothing fails (this project's
+-- profile).
 use Rattle.std.specs.Prelude.{◌≡◌, ◌⊎◌, ℕ, ◌+◌, ◌*◌, ◌-◌, ◌<◌, List, ◌++◌, length, take, slice_index, codes, decimal, Some, Ok, Err}
 use Rattle.trau_io.specs.declared.line.Side.{Side}
 use Rattle.trau_io.specs.declared.line.Side.TheVariants.{Up, Out}
@@ -43,8 +44,8 @@ pub record MergeRun (before now : ℕ → Side → LineState) (desk desk' : Desk
   pub others : AllButFive before now call Out Up
   pub tells : TellsText (merge_text end) (merge_end end) desk desk' result
 
--- The status is 0, 4 or 6. With 4 a fault of writing to the desk was counted, with 6 a fault of the slot's line or of a channel's.
--- If the desk's count grew, the status is 4. If the count of one of these lines grew, it is 6 or 4.
+-- The status is 0, 4 or 6. With 4 a fault of writing to the desk was counted, with 6 a fault of the slot's line or of a
+-- channel's. If the desk's count grew, the status is 4. If the count of one of these lines grew, it is 6 or 4.
 pub record SlotCauses (slot slot' : LineState) (channels channels' : ℕ → LineState) (desk desk' : DeskState) (status : ℕ) : Type 0 where
   pub known : (status ≡ 0) ⊎ (status ≡ 4) ⊎ (status ≡ 6)
   pub desk_failed : status ≡ 4 → Rose desk.write_faults desk'.write_faults
@@ -63,8 +64,8 @@ pub record AreCalm (slot slot' : LineState) (channels channels' : ℕ → LineSt
   pub channels_calm : (j : ℕ) → j < 4 → IsCalm (channels j).faults (channels' j).faults
   pub desk_calm : IsCalm desk.write_faults desk'.write_faults
 
--- the result of `merge` if the four lines had `lists` to come: the slot gained what the first `used` octets of each make, as many as
--- the shortest has, and the desk the text
+-- the result of `merge` if the four lines had `lists` to come: the slot gained what the first `used` octets of each
+-- make, as many as the shortest has, and the desk the text
 pub record LeavesMerge (ups' : ℕ → LineState) (out' : LineState) (desk' : DeskState) (lists : ℕ → List ℕ) (held text : List ℕ) (status : ℕ) : Type 0 where
   pub given : ℕ → List ℕ
   pub rest : ℕ → List ℕ

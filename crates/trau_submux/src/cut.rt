@@ -86,9 +86,10 @@ impl BlockMachine for Splitting {
 /// Cuts the time slot on a call's Pcm line into its four channels of 16 kbit/s. Channel j goes to the Down line of call
 /// `call + j`.
 ///
-/// It cuts whole groups of four octets, up to the end of the slot, but at most 4,294,967,295 blocks of 160 octets. Then it prints
-/// `split octets N left R`, N octets being cut and R left, or `line C SIDE failed`. If a channel's line fails, the lines before
-/// it have also gained their part of the current block. It doesn't allocate, and never ends with `Refused` or `Memory`.
+/// It cuts whole groups of four octets, up to the end of the slot, but at most 4,294,967,295 blocks of 160 octets. Then
+/// it prints `split octets N left R`, N octets being cut and R left, or `line C SIDE failed`. If a channel's line
+/// fails, the lines before it have also gained their part of the current block. It doesn't allocate, and never ends
+/// with `Refused` or `Memory`.
 pub fn split<T: Trunk, D: Desk>(call: u32, trunk: &mut T, desk: &mut D) -> ToolEnd
     requires low { 1 ≤ call }
     requires high { call ≤ 4093 }

@@ -7,8 +7,8 @@ ghost use Rattle.trau_submux.specs.Pairs.{gathered};
 use crate::lanes::{eight_groups, eight_of_each, put_eight, put_thirty_two};
 use std::simd::prelude::*;
 
-/// Cuts 160 octets of a slot into their four channels, 40 octets each. Undoes a merge: if the slot has the bits of some octets
-/// for a channel, these octets are the channel.
+/// Cuts 160 octets of a slot into their four channels, 40 octets each. Undoes a merge: if the slot has the bits of some
+/// octets for a channel, these octets are the channel.
 pub fn split4(slot: &[u8; 160], subs: &mut [[u8; 40]; 4])
     ensures channels { (j : ℕ) → j < 4 → slice_index_or subs.new j [] ≡ channel j slot.now }
     ensures bits { (j : ℕ) → j < 4 → bits_of (slice_index_or subs.new j []) ≡ subchannel j slot.now }
@@ -49,8 +49,8 @@ fn merge_channels(
     }
 }
 
-/// Puts four channels of 40 octets each together to 160 octets of a slot. Undoes a split: if they are the channels of a slot,
-/// the result is that slot.
+/// Puts four channels of 40 octets each together to 160 octets of a slot. Undoes a split: if they are the channels of a
+/// slot, the result is that slot.
 pub fn merge4(subs: &[[u8; 40]; 4], slot: &mut [u8; 160])
     ensures channels { (j : ℕ) → j < 4 → subchannel j slot.new ≡ bits_of (slice_index_or subs.now j []) }
     ensures octets { All (λ x. x < 256) slot.new }

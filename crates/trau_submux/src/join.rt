@@ -105,8 +105,8 @@ fn merge_block<T: Trunk>(call: u32, trunk: &mut T) -> BlockEnd
     }
 }
 
-/// Puts the channels on the Up lines of a call and the next three together to a slot, on the call's Out line, up to the end
-/// of the shortest line, but at most 4,294,967,295 blocks of 40 octets.
+/// Puts the channels on the Up lines of a call and the next three together to a slot, on the call's Out line, up to the
+/// end of the shortest line, but at most 4,294,967,295 blocks of 40 octets.
 pub(crate) fn merge_slot<T: Trunk>(call: u32, trunk: &mut T) -> MergeEnd
     requires low { 1 ≤ call }
     requires high { call ≤ 4093 }

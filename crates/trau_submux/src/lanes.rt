@@ -1,9 +1,9 @@
 //! Eight groups of four octets at a time, in the lanes of vectors.
 //!
-//! Four octets are a square of pairs of bits, a row for each octet. If the rows are octets of a slot, the columns are an octet
-//! of each channel; if the rows are an octet of each channel, the columns are octets of the slot. So one transposition serves
-//! both ways. It is done by blocks, as for a matrix: first the halves of the octets are exchanged, then the pairs within each
-//! half.
+//! Four octets are a square of pairs of bits, a row for each octet. If the rows are octets of a slot, the columns are
+//! an octet of each channel; if the rows are an octet of each channel, the columns are octets of the slot. So one
+//! transposition serves both ways. It is done by blocks, as for a matrix: first the halves of the octets are exchanged,
+//! then the pairs within each half.
 ghost use Rattle.std.specs.Prelude.{◌≡◌, ◌+◌, ◌*◌, ◌/◌, ◌%◌, ◌<◌, ◌≤◌, ℕ, length, slice_index};
 ghost use Rattle.std.specs.Simd.Lanes.{chunk, put_chunk};
 ghost use Rattle.trau_submux.specs.Pairs.{gathered, pair_at, four_pairs};
@@ -39,8 +39,8 @@ fn exchange_pairs(x: u8x16, y: u8x16) -> (u8x16, u8x16)
     (even, odd)
 }
 
-// The columns of eight squares. `x` has their eight first rows and then their second ones, `y` the third and fourth ones. The
-// result has the first and third columns, and the second and fourth ones.
+// The columns of eight squares. `x` has their eight first rows and then their second ones, `y` the third and fourth
+// ones. The result has the first and third columns, and the second and fourth ones.
 fn turned(x: u8x16, y: u8x16) -> (u8x16, u8x16)
     ensures { EightColumns x y result.0 result.1 }
 {
@@ -73,8 +73,8 @@ fn thirty_two_at(octets: &[u8], at: usize) -> u8x32
     u8x32::from_slice(&octets[at..])
 }
 
-/// Eight octets of each channel, from the 32 octets of a slot from place `at` on: those of the first and the third channel, and
-/// those of the second and the fourth.
+/// Eight octets of each channel, from the 32 octets of a slot from place `at` on: those of the first and the third
+/// channel, and those of the second and the fourth.
 pub(crate) fn eight_of_each(slot: &[u8], at: usize) -> (u8x16, u8x16)
     requires { at + 32 ≤ length slot.now }
     ensures { EightOfEach slot.now at result.0 result.1 }

@@ -27,11 +27,11 @@ fn end_of_merge(end: MergeEnd) -> ToolEnd
     }
 }
 
-/// Puts the four channels of 16 kbit/s on the Up lines of a call and the next three together to a time slot, on the call's
-/// Out line.
+/// Puts the four channels of 16 kbit/s on the Up lines of a call and the next three together to a time slot, on the
+/// call's Out line.
 ///
-/// It reads the lines in blocks of 40 octets, up to the first block that is short on any line, but at most 4,294,967,295
-/// blocks. Of a short block it uses as many octets of each line as the shortest has. Then it prints
+/// It reads the lines in blocks of 40 octets, up to the first block that is short on any line, but at most
+/// 4,294,967,295 blocks. Of a short block it uses as many octets of each line as the shortest has. Then it prints
 /// `merge octets N left A B C D`: N octets were written, and A to D of each line were read but not used; or
 /// `line C SIDE failed`. It doesn't allocate, and never ends with `Refused` or `Memory`.
 pub fn merge<T: Trunk, D: Desk>(call: u32, trunk: &mut T, desk: &mut D) -> ToolEnd

@@ -4,8 +4,9 @@ use Rattle.trau_params.specs.Fields.{Fields}
 use Rattle.tx_dtx.specs.Stretch.{Measures}
 use Rattle.tx_dtx.specs.Sent.{hangover_after}
 
--- the number of inactive frames in a row, counted up to `described_from`; the number of frames since the last SID was made, counted up to
--- `hangover_after`; whether the last pause has a hangover; the last SID; the measures of the last three frames
+-- the number of inactive frames in a row, counted up to `described_from`; the number of frames since the last SID was
+-- made, counted up to `hangover_after`; whether the last pause has a hangover; the last SID; the measures of the last
+-- three frames
 pub record TxMemory : Type 0 where
   pub run : ℕ
   pub elapsed : ℕ

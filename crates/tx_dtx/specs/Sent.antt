@@ -1,5 +1,5 @@
--- What is sent of a stretch of frames from the home state (this project's profile, modelled on GSM 06.31 and GSM 06.12). A stretch has the newest
--- frame first.
+-- What is sent of a stretch of frames from the home state (this project's profile, modelled on GSM 06.31 and GSM
+-- 06.12). A stretch has the newest frame first.
 use Rattle.std.specs.Prelude.{ℕ, ◌+◌, suc, true, false, Bool, if◌then◌else◌, nat_le, Option, Some, None, option_map, List, [], ◌∷◌, ◌++◌, map, take, reverse}
 use Rattle.trau_params.specs.Fields.{Fields}
 use Rattle.tx_dtx.specs.Stretch.{Measures, Coded, is_active, Sent}

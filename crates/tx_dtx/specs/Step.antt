@@ -18,7 +18,8 @@ after_active m = record { run = 0; elapsed = elapsed_later m.elapsed; hangs = m.
 abbrev pub after_sid : TxMemory → List Measures → TxMemory
 after_sid m four = record { run = described_from; elapsed = 0; hangs = m.hangs; sid = sid_of four; recent = m.recent }
 
--- whether the pause has a hangover, at its run-th frame; its first frame decides, by how many frames have passed since the last SID
+-- whether the pause has a hangover, at its run-th frame; its first frame decides, by how many frames have passed since
+-- the last SID
 abbrev pub hangs_at : ℕ → ℕ → Bool → Bool
 hangs_at run elapsed hangs = if run == 1 then nat_le hangover_after elapsed else hangs
 

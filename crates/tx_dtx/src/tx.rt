@@ -15,7 +15,8 @@ use trau_params::{Params, Trace};
 // From this frame of a pause on, counted from 1, each one becomes a SID (this project's profile).
 const DESCRIBED_FROM: u8 = 5;
 
-// A pause has a hangover if this many frames, or more, have passed since the last SID was made (this project's profile).
+// A pause has a hangover if this many frames, or more, have passed since the last SID was made (this project's
+// profile).
 const HANGOVER_AFTER: u8 = 24;
 
 /// The state of the transmit side of one call.

@@ -1,4 +1,4 @@
-use Rattle.call_leg.proofs.Bridges.{queue-short}
+use Rattle.call_leg.proofs.Downlink.Bridges.{queue-short}
 use Rattle.call_leg.proofs.laws.one_frame_waits.Goals as goal
 
 pub returns : goal.returns

@@ -1,5 +1,5 @@
 use Rattle.std.proofs.Common.{arith}
-use Rattle.call_leg.proofs.Numbered.{frames-numbered, start-next, next-ahead, start-come}
+use Rattle.call_leg.proofs.Downlink.Numbered.{frames-numbered, start-next, next-ahead, start-come}
 use Rattle.call_leg.proofs.laws.the_frames_are_made_by_number.Goals as goal
 
 pub returns-clause-frames : goal.returns-clause-frames

@@ -1,5 +1,5 @@
 use Rattle.trau_params.specs.Fields.{fields_of}
-use Rattle.call_leg.proofs.Stepping.{decode-step}
+use Rattle.call_leg.proofs.Downlink.Stepping.{decode-step}
 use Rattle.call_leg.proofs.up.decode.Goals as goal
 
 pub returns : goal.returns

@@ -19,7 +19,7 @@ text_of-requires g c =
     c.args.pace.now c.in_ok-report.report
     c.in_ok-lines.text.items c.deref.result.now c.one_answer.ensures.orders c.requires.calls c.new-trunk.ensures c.in_ok-lines.ensures.lines
     c.in_ok-lines.ensures.orders
-    c.in_ok-lines.ensures.within c.deref.ensures.value c.in_ok-orders.ensures c.has_rooms.ensures c.in_ok-report.ensures.runs refl in
+    c.in_ok-lines.ensures.within c.deref.ensures.value c.in_ok-orders.ensures c.lines_have_rooms.ensures c.in_ok-report.ensures.runs refl in
     calls_numbered _ _ _ _ _ _ _ _ drilling
 
 pub returns : goal.returns
@@ -28,6 +28,6 @@ returns g c =
     c.args.pace.now c.in_ok-report.report
     c.in_ok-lines.text.items c.deref.result.now c.one_answer.ensures.orders c.requires.calls c.new-trunk.ensures c.in_ok-lines.ensures.lines
     c.in_ok-lines.ensures.orders
-    c.in_ok-lines.ensures.within c.deref.ensures.value c.in_ok-orders.ensures c.has_rooms.ensures c.in_ok-report.ensures.runs refl in
+    c.in_ok-lines.ensures.within c.deref.ensures.value c.in_ok-orders.ensures c.lines_have_rooms.ensures c.in_ok-report.ensures.runs refl in
     IfOk-weaker c.text_of.result _ _
     (λ text is. is_drilled _ _ _ _ _ _ _ _ drilling (string_bytes text) _ _ refl refl is) c.text_of.ensures

@@ -5,7 +5,7 @@ use Rattle.call_leg.specs.Out.{out_line}
 use Rattle.call_spec.specs.Whole.{periods_of_call}
 use Rattle.run_spec.specs.Lines.{down_octets}
 use Rattle.call_leg.proofs.LineLaws.{length-down_line}
-use Rattle.run_spec.proofs.LongerLines.{length-periods_to}
+use Rattle.run_spec.proofs.Parts.LongerLines.{length-periods_to}
 use Rattle.run_calls_spec.specs.Whole.{count_in, whole_call}
 use Rattle.run_calls_spec.proofs.Periods.{is_whole, history_same}
 use Rattle.run_calls_spec.proofs.laws.lines_are_of_whole_calls.Goals as goal

@@ -1,7 +1,7 @@
-use Rattle.run_spec.proofs.SoFar.{standing_now}
-use Rattle.run_spec.proofs.Bridging.{bridge_later, bridge_after, bridge_partner}
-use Rattle.run_spec.proofs.Going.{gone_after}
-use Rattle.run_spec.proofs.Rounds.{bridge_none, bridge_here, bridge_both}
+use Rattle.run_spec.proofs.Periods.SoFar.{standing_now}
+use Rattle.run_spec.proofs.Bridges.Later.{bridge_later, bridge_after, bridge_partner}
+use Rattle.run_spec.proofs.Periods.Next.{gone_after}
+use Rattle.run_spec.proofs.Periods.Rounds.{bridge_none, bridge_here, bridge_both}
 use Rattle.run_spec.proofs.laws.bridges_go_on.Goals as goal
 
 pub returns-clause-none : goal.returns-clause-none

@@ -2,7 +2,7 @@ use Rattle.std.proofs.Common.{ap}
 use Rattle.run_spec.specs.Run.{who_in}
 use Rattle.call_leg.specs.Out.{out_line}
 use Rattle.run_spec.specs.Lines.{down_octets}
-use Rattle.run_spec.proofs.Going.{call_line_is, periods_ended}
+use Rattle.run_spec.proofs.Periods.Next.{call_line_is, periods_ended}
 use Rattle.run_spec.proofs.laws.ended_calls_are_reported.Goals as goal
 
 pub returns-clause-line : goal.returns-clause-line

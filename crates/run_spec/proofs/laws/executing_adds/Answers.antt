@@ -1,4 +1,4 @@
-use Rattle.run_spec.proofs.Executing.{done_after-append, added, done_after-added, added_orders}
+use Rattle.run_spec.proofs.Orders.Executed.{done_after-append, added, done_after-added, added_orders}
 use Rattle.run_spec.proofs.laws.executing_adds.Goals as goal
 
 pub returns-clause-front : goal.returns-clause-front

@@ -1,4 +1,4 @@
-use Rattle.run_spec.proofs.Going.{bridge_has, partner_hands, item_ups, ups_periods}
+use Rattle.run_spec.proofs.Periods.Next.{bridge_has, partner_hands, item_ups, ups_periods}
 use Rattle.run_spec.proofs.laws.items_are_effective_frames.Goals as goal
 
 pub returns-clause-both : goal.returns-clause-both

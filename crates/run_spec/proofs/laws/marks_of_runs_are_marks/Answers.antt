@@ -1,4 +1,4 @@
-use Rattle.run_spec.proofs.Marks.{mark-is}
+use Rattle.run_spec.proofs.Parts.Marks.{mark-is}
 use Rattle.run_spec.proofs.laws.marks_of_runs_are_marks.Goals as goal
 
 pub returns : goal.returns

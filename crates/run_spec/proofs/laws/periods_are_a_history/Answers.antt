@@ -1,5 +1,5 @@
-use Rattle.run_spec.proofs.Going.{none_waits}
-use Rattle.run_spec.proofs.History.{periods_history}
+use Rattle.run_spec.proofs.Periods.Next.{none_waits}
+use Rattle.run_spec.proofs.Periods.History.{periods_history}
 use Rattle.run_spec.proofs.laws.periods_are_a_history.Goals as goal
 
 pub returns-clause-history : goal.returns-clause-history

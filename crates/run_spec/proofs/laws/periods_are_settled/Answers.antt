@@ -1,5 +1,5 @@
-use Rattle.run_spec.proofs.Settled.{period_settled}
-use Rattle.run_spec.proofs.Going.{period_by, handed_bridged, periods_more}
+use Rattle.run_spec.proofs.Periods.Same.{period_settled}
+use Rattle.run_spec.proofs.Periods.Next.{period_by, handed_bridged, periods_more}
 use Rattle.run_spec.proofs.laws.periods_are_settled.Goals as goal
 
 pub returns-clause-period : goal.returns-clause-period

@@ -1,4 +1,4 @@
-use Rattle.run_spec.proofs.Rounds.{round_period, round_alone, round_bridged}
+use Rattle.run_spec.proofs.Periods.Rounds.{round_period, round_alone, round_bridged}
 use Rattle.run_spec.proofs.laws.rounds_go_on.Goals as goal
 
 pub returns-clause-period : goal.returns-clause-period

@@ -1,6 +1,6 @@
-use Rattle.run_spec.proofs.SoFar.{rest_in, done-rest, rest_orders}
+use Rattle.run_spec.proofs.Periods.SoFar.{rest_in, done-rest, rest_orders}
 use Rattle.run_spec.proofs.Ending.{all_done, all_left}
-use Rattle.run_spec.proofs.Going.{start_run, law_run}
+use Rattle.run_spec.proofs.Periods.Next.{start_run, law_run}
 use Rattle.run_spec.proofs.laws.runs_are_whole.Goals as goal
 
 pub returns-clause-rest : goal.returns-clause-rest

@@ -1,4 +1,4 @@
-use Rattle.run_spec.proofs.SoFar.{so_far_at_first, so_far_later, so_far_more}
+use Rattle.run_spec.proofs.Periods.SoFar.{so_far_at_first, so_far_later, so_far_more}
 use Rattle.run_spec.proofs.laws.runs_go_on.Goals as goal
 
 pub returns-clause-start : goal.returns-clause-start

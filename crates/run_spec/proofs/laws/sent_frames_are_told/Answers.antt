@@ -1,4 +1,4 @@
-use Rattle.run_spec.proofs.Sent.{sent_at_bridge, sent_at_end}
+use Rattle.run_spec.proofs.Frames.Sent.{sent_at_bridge, sent_at_end}
 use Rattle.run_spec.proofs.laws.sent_frames_are_told.Goals as goal
 
 pub returns-clause-bridge : goal.returns-clause-bridge

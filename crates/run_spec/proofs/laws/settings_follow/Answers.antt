@@ -1,6 +1,6 @@
-use Rattle.run_spec.proofs.SoFar.{standing_now}
-use Rattle.run_spec.proofs.Bridging.{next_settings}
-use Rattle.run_spec.proofs.Acting.{settings_ordered}
+use Rattle.run_spec.proofs.Periods.SoFar.{standing_now}
+use Rattle.run_spec.proofs.Bridges.Later.{next_settings}
+use Rattle.run_spec.proofs.Orders.Settings.{settings_ordered}
 use Rattle.run_spec.proofs.laws.settings_follow.Goals as goal
 
 pub returns-clause-order : goal.returns-clause-order

@@ -1,7 +1,7 @@
 use Rattle.std.proofs.Common.{rules, FitsSigned, w16}
 use Rattle.std.proofs.lemmas.Int.{to_z-of_z}
 use Rattle.call_leg.specs.Memory.{coder_memory}
-use Rattle.call_leg.proofs.Stepping.{code-step}
+use Rattle.call_leg.proofs.Downlink.Stepping.{code-step}
 use Rattle.call_leg.proofs.coder.Coder.code.Goals as goal
 
 pub returns-clause-bits : goal.returns-clause-bits

@@ -5,7 +5,7 @@ use Rattle.std.specs.Int.{w16}
 use Rattle.time_align.specs.Shift.{IsShift}
 use Rattle.trau_bits.specs.Bits.{AreBits}
 use Rattle.call_leg.specs.Memory.{down_memory}
-use Rattle.call_leg.proofs.Stepping.{make-step}
+use Rattle.call_leg.proofs.Downlink.Stepping.{make-step}
 use Rattle.call_leg.proofs.down_side.DownSide.make_frame.Goals as goal
 
 pub next_frame-frame-requires : goal.next_frame-frame-requires

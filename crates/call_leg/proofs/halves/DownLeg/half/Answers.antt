@@ -1,7 +1,7 @@
 use Rattle.std.proofs.Common.{sym, ap, ◌∙◌}
 use Rattle.call_leg.specs.Memory.{DownMemory, down_memory}
 use Rattle.call_leg.specs.Step.{with_framer, down_worked}
-use Rattle.call_leg.proofs.Stepping.{half-step}
+use Rattle.call_leg.proofs.Downlink.Stepping.{half-step}
 use Rattle.call_leg.proofs.halves.DownLeg.half.Goals as goal
 
 pub returns : goal.returns

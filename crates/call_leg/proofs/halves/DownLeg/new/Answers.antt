@@ -1,7 +1,7 @@
 use Rattle.std.proofs.Common.{List, ℕ, ap}
 use Rattle.circular_buffer.specs.Buffer.{Buffer}
 use Rattle.call_leg.specs.Memory.{coder_memory}
-use Rattle.call_leg.proofs.Stepping.{home-step}
+use Rattle.call_leg.proofs.Downlink.Stepping.{home-step}
 use Rattle.call_leg.proofs.halves.DownLeg.new.Goals as goal
 
 pub returns : goal.returns

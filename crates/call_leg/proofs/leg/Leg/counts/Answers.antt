@@ -4,7 +4,7 @@ use Rattle.frame_sync.specs.Memory.{SyncMemory}
 use Rattle.call_leg.specs.Counted.{sightings_counted}
 use Rattle.call_leg.specs.Down.{frames_of}
 use Rattle.call_leg.specs.Memory.{LegMemory}
-use Rattle.call_leg.proofs.Bounds.{frames-at_most, exact_u64}
+use Rattle.call_leg.proofs.Downlink.Bounds.{frames-at_most, exact_u64}
 use Rattle.call_leg.proofs.Heard.{length-ups_of}
 use Rattle.call_leg.proofs.leg.Leg.counts.Goals as goal
 

@@ -1,7 +1,7 @@
 use Rattle.std.proofs.Common.{ap, ◌∙◌, not, ◌&&◌, length}
 use Rattle.std.specs.Prelude.{◌==◌}
 use Rattle.call_leg.specs.Memory.{LegMemory}
-use Rattle.call_leg.proofs.Bridges.{drains, queue-short}
+use Rattle.call_leg.proofs.Downlink.Bridges.{drains, queue-short}
 use Rattle.call_leg.proofs.leg.Leg.draining.Goals as goal
 
 pub returns-clause-memory : goal.returns-clause-memory

@@ -3,7 +3,7 @@ use Rattle.frame_sync.specs.Memory.{SyncMemory}
 use Rattle.call_leg.specs.Settings.{epoch_now}
 use Rattle.call_leg.specs.Places.{sent_now}
 use Rattle.call_leg.specs.Memory.{LegMemory}
-use Rattle.call_leg.proofs.Bounds.{carried-at_most, exact_u32}
+use Rattle.call_leg.proofs.Downlink.Bounds.{carried-at_most, exact_u32}
 use Rattle.call_leg.proofs.Heard.{length-ups_of}
 use Rattle.call_leg.proofs.leg.Leg.sent.Goals as goal
 

@@ -4,10 +4,10 @@ use Rattle.switchboard.specs.Calls.{is_open}
 use Rattle.switchboard.specs.Rows.{Rows}
 use Rattle.switchboard.specs.Stands.{IsBoard, board_state, dones}
 use Rattle.switchboard.specs.Open.{law_now}
-use Rattle.switchboard.proofs.BoardLists.{bridges-bound}
-use Rattle.switchboard.proofs.Boards.{told_call, board-told, state-told}
-use Rattle.switchboard.proofs.Laws.{before_more}
-use Rattle.switchboard.proofs.Changes.{Without, board_sized, ended_changes}
+use Rattle.switchboard.proofs.Boards.Lists.{bridges-bound}
+use Rattle.switchboard.proofs.Boards.States.{told_call, board-told, state-told}
+use Rattle.switchboard.proofs.Orders.InRange.{before_more}
+use Rattle.switchboard.proofs.Boards.Changes.{Without, board_sized, ended_changes}
 use Rattle.switchboard.proofs.board.Board.ended.Goals as goal
 
 pub end_call-requires-clause-few : goal.end_call-requires-clause-few

@@ -5,10 +5,10 @@ use Rattle.switchboard.specs.State.{State}
 use Rattle.switchboard.specs.Open.{law_now}
 use Rattle.switchboard.specs.Rows.{never}
 use Rattle.switchboard.specs.Stands.{IsBoard, board_state}
-use Rattle.switchboard.proofs.Sizes.{rows}
-use Rattle.switchboard.proofs.Boards.{board-new, state-new}
-use Rattle.switchboard.proofs.Laws.{told_none}
-use Rattle.switchboard.proofs.Changes.{start_alone}
+use Rattle.switchboard.proofs.Tables.Sizes.{rows}
+use Rattle.switchboard.proofs.Boards.States.{board-new, state-new}
+use Rattle.switchboard.proofs.Orders.InRange.{told_none}
+use Rattle.switchboard.proofs.Boards.Changes.{start_alone}
 use Rattle.switchboard.proofs.board.Board.new.Goals as goal
 
 table : (c : goal.In_ok-replies) → c.in_ok-table.table ≡ rows (replicate 4097 never) [] [] (length c.args.orders)

@@ -1,7 +1,7 @@
 use Rattle.std.proofs.Common.{length, subst}
 use Rattle.switchboard.specs.State.{State}
 use Rattle.switchboard.specs.Stands.{AreRising}
-use Rattle.switchboard.proofs.Laws.{left_rising}
+use Rattle.switchboard.proofs.Orders.InRange.{left_rising}
 use Rattle.switchboard.proofs.board.Board.next.Goals as goal
 
 pub returns-clause-rising : goal.returns-clause-rising

@@ -1,9 +1,9 @@
 use Rattle.std.proofs.Common.{◌≡◌, ◌∙◌, ℕ, refl, sym, ap, subst, None}
 use Rattle.switchboard.specs.State.{State, after_turn, reply_of}
 use Rattle.switchboard.specs.Runs.{IsRun, TellsEnds}
-use Rattle.switchboard.proofs.Runs.{run_more}
-use Rattle.switchboard.proofs.Laws.{none_left, none_exactly, other_stamp, without_reply, no_reply, refused_answer, last_is}
-use Rattle.switchboard.proofs.Changes.{refused_before}
+use Rattle.switchboard.proofs.Orders.Runs.{run_more}
+use Rattle.switchboard.proofs.Orders.InRange.{none_left, none_exactly, other_stamp, without_reply, no_reply, refused_answer, last_is}
+use Rattle.switchboard.proofs.Boards.Changes.{refused_before}
 use Rattle.switchboard.proofs.board.Board.turn.Goals as goal
 
 pub returns-clause-refused : goal.returns-clause-refused

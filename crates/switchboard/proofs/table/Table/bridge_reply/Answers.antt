@@ -3,7 +3,7 @@ use Rattle.switchboard.specs.declared.act.Refusal.{Refusal}
 use Rattle.switchboard.specs.declared.act.Act.TheVariants as act
 use Rattle.switchboard.specs.Replies.{Known, not_open, bridged, draining, same_call}
 use Rattle.switchboard.specs.Rows.{known_in}
-use Rattle.switchboard.proofs.Replies.{not_same, next_test, failed_test, refused_by, none_in_table}
+use Rattle.switchboard.proofs.Orders.Replies.{not_same, next_test, failed_test, refused_by, none_in_table}
 use Rattle.switchboard.proofs.table.Table.bridge_reply.Goals as goal
 
 -- the tests from one on

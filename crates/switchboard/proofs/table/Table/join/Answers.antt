@@ -2,7 +2,7 @@ use Rattle.std.proofs.Common.{◌<◌, ◌∙◌, ℕ, List, Some, length, set, 
 use Rattle.std.proofs.lemmas.List.{get_or_read, length-set}
 use Rattle.switchboard.specs.declared.table.Call.{Call}
 use Rattle.switchboard.specs.Rows.{Rows, never, bridged_in}
-use Rattle.switchboard.proofs.Sizes.{joined_sized, joined_rows}
+use Rattle.switchboard.proofs.Tables.Sizes.{joined_sized, joined_rows}
 use Rattle.switchboard.proofs.table.Table.join.Goals as goal
 
 pub index_mut-requires : goal.index_mut-requires
