@@ -12,7 +12,7 @@ from pathlib import Path
 from typing import Dict, List, Set, Tuple
 
 from boxes import Given, Side, box, pcm, speech, uplink
-from turned import RECEIVING, SENDING, SUSPECTED, TurnedBox
+from turned import RECEIVING, REFUSED_LATE, SENDING, SUSPECTED, TurnedBox
 
 from trau.model.codec import FullRateDecoder
 from trau.rules.frame import bits_of, octets_of
@@ -22,10 +22,11 @@ from trau.suite.box_decoder import HOME, STANDARD, decode
 from trau.suite.box_delay import NotSure
 from trau.suite.box_findings import Findings
 from trau.suite.box_laws import CONVENTIONS, OURS, ranges_of
-from trau.suite.box_sides import ReceiveSide, judge_send, judge_shifts
+from trau.suite.box_receive_side import ReceiveSide
+from trau.suite.box_send_side import judge_send, judge_shifts
 from trau.suite.box_uplink import up_periods
 from trau.suite.operations import DESCRIPTOR, GOOD, LOST, LOST_DUE
-from trau.suite.rule_list import Level, read_recorded_rules, read_rules
+from trau.suite.rule_list import Level, judged_rules, read_recorded
 
 IS_LONG = "--long" in sys.argv
 SAMPLE = (
@@ -35,11 +36,15 @@ SAMPLE = (
     "an approach in 4 steps",
     "a decoded gain",
     "a mantissa of pulses",
+    "a factor of ratios",
+    "no decoded lag above 110",
     "a bit of the code word",
     "a hangover after 40 frames",
     "SP turned",
+    "a sync bit of 0",
     "a decision level of gains",
 )
+LATE_SAMPLE = ("muting by 5", "an approach in 4 steps", "a bit of the code word", "a decision level of gains")
 DIGITS = (
     (
         GOOD * 14
@@ -65,7 +70,7 @@ DIGITS = (
     + GOOD * 10
 )
 FIELDS = {20: 5, 40: 63}
-RULES = [*read_rules(), *(each.rule for each in read_recorded_rules())]
+RULES = judged_rules()
 FILES = Path(__file__).resolve().parents[2] / "docs" / "FILES.md"
 
 
@@ -127,13 +132,36 @@ class Turned(unittest.TestCase):
         self.assertEqual(findings.is_broken(), binds, name)
 
     def test_names(self) -> None:
-        self.assertLessEqual(set(SAMPLE), {*RECEIVING, *SENDING, *SUSPECTED})
+        self.assertLessEqual({*SAMPLE, *LATE_SAMPLE}, {*RECEIVING, *SENDING, *SUSPECTED})
         self.assertGreaterEqual(len(RECEIVING) + len(SENDING), 20)
 
     def test_receiving(self) -> None:
         for name, each in chosen(RECEIVING):
             made = box(each.turns, given(), Side.OUT)
             self.judge(name, each.rules, received(given().up, made))
+
+    def test_late(self) -> None:
+        """Of a line that begins late the same rules are named, if enough of it is left."""
+        out_late, pcm_late = 160 * 12 + 11, 160 * 9 + 3
+        for name, each in {**RECEIVING, **SENDING}.items():
+            if not IS_LONG and name not in LATE_SAMPLE:
+                continue
+            with contextlib.suppress(NotSure) if name in REFUSED_LATE else contextlib.nullcontext():
+                if name in RECEIVING:
+                    found = received(given().up, box(each.turns, given(), Side.OUT)[out_late:])
+                else:
+                    made = box(each.turns, given(), Side.DOWN)
+                    found = sent(given().up, given().pcm[pcm_late:], made)
+                self.judge(name, each.rules, found)
+
+    def test_a_wrong_sync_bit(self) -> None:
+        """Of one frame: it is missed, and its place says that a bit is wrong."""
+        bits = bits_of(plain_down())
+        place = 320 * 8 + 16 * 4
+        self.assertEqual(bits[place], "1")
+        findings = sent(given().up, given().pcm, octets_of(bits[:place] + "0" + bits[place + 1 :]))
+        self.assertEqual(findings.named(), ["line.sync"])
+        self.assertEqual(findings.first("line.sync").place.period, 8)
 
     def test_suspected(self) -> None:
         """The rule is among those that may be broken, and no other one is named."""
@@ -254,8 +282,8 @@ class Parts(unittest.TestCase):
 
     def test_recorded_rules_quote_the_page(self) -> None:
         page = " ".join(FILES.read_text(encoding="utf-8").split())
-        for each in read_recorded_rules():
-            for quote in each.rule.page:
+        for each in read_recorded().rules:
+            for quote in each.page:
                 self.assertIn(quote, page)
 
 
@@ -281,7 +309,7 @@ class Command(unittest.TestCase):
         self.assertEqual((status, err), (0, ""))
         self.assertIn("lost.as-it-came", out)
         self.assertRegex(
-            out, r"noise\.lags +exact +not exercised: send case conceal/descriptor-lost-1\n"
+            out, r"noise\.lags +exact +not exercised: send case call-alaw/recording\n"
         )
         self.assertRegex(out, r"rules \d+ held \d+ broken 0 other 0 drawn 1 not exercised \d+\n$")
 

@@ -11,7 +11,7 @@ from pathlib import Path
 from typing import Dict, List, Optional, Sequence
 from xml.etree import ElementTree
 
-from trau.suite import edits, edits_run, matrix, peers, tables
+from trau.suite import edits, edits_run, matrix, peers, matrix_page, tables
 from trau.suite.cases import Case, all_cases
 from trau.suite.generator import Expected, expected_cases, files_of, model_answer
 from trau.suite.judges import JUDGES, broken_at
@@ -273,13 +273,22 @@ class Peers(unittest.TestCase):
         self.assertEqual(peer["rules"]["kind.invalid"]["case"], "kind/each-pair")
         suite = ElementTree.fromstring(tables.junit_of(rows))[0]
         self.assertEqual(suite.get("failures"), "1")
-        self.assertIn("broken: kind/each-pair", tables.html_of(rows, RULES))
+        page = matrix_page.html_of(rows, RULES)
+        self.assertIn('title="broken: kind/each-pair frame 0"', page)
+        self.assertEqual(page.count("<tr class=\"group\">"), len({rule.identifier.partition(".")[0] for rule in RULES}))
+        for tag in ("table", "tr", "td", "th", "ul", "li"):
+            self.assertEqual(page.count(f"<{tag}>") + page.count(f"<{tag} "), page.count(f"</{tag}>"), tag)
         peers, rules, broken = tables.markdown_of(rows, RULES).split("\n\n")
         name = rows[0].peer.name
         self.assertIn(f"| `{name}` | - | 3 | 4 | 1 |", peers)
         self.assertIn("| `decoder.lag-gain` | exact | - |", rules)
         self.assertNotIn("lost.muted", rules)
         self.assertIn(f"| `{name}` | `kind.invalid` | kind/each-pair, 0 |", broken)
+
+    def test_command_that_is_not_there(self) -> None:
+        for command in ("./gone --flag", ""):
+            with self.assertRaises(peers.NotThere):
+                peers.by_command(command, False)
 
     def test_command_that_fails(self) -> None:
         peer = peers.by_command("false", False)

@@ -30,6 +30,9 @@ FALL = "fall = profile.MUTING_STEP * (self.n - 1)"
 MUTED = "xmaxc=max(0, b.xmaxc - fall)"
 AS_IT_CAME = "if self.n <= 1:\n            return self.good"
 
+# Boxes of which a recording that begins late shows too little: it is refused.
+REFUSED_LATE = {"no interpolation"}
+
 # What a box makes of its uplink.
 RECEIVING: Dict[str, TurnedBox] = {
     "muting by 5": turned("lost.muted", RECEIVE, FALL, "fall = 5 * (self.n - 1)"),
@@ -90,6 +93,12 @@ RECEIVING: Dict[str, TurnedBox] = {
         "max(0, maximum - profile.MUTING_STEP * fall)",
         "min(63, maximum + fall)",
     ),
+    "a mantissa of pulses": turned(
+        "decoder.pulses", CODEC, "FAC = (18431, 20479, 22527", "FAC = (18431, 20479, 23527"
+    ),
+    "a factor of ratios": turned(
+        "decoder.ratios", CODEC, "INVA = (13107, 13107, 13107", "INVA = (13107, 13607, 13107"
+    ),
     "a decoded gain": turned("decoder.lag-gain", CODEC, "QLB = (3277, 11469", "QLB = (3277, 12469"),
     "no interpolation": turned(
         "decoder.interpolation",
@@ -120,13 +129,10 @@ RECEIVING: Dict[str, TurnedBox] = {
     ),
 }
 
-# What shows that the decoder is another, but not yet by which rule: check.py names all that may be broken.
+# What no turn of a number explains, while softer frames are as they came: check.py names all rules that may be broken.
 SUSPECTED: Dict[str, TurnedBox] = {
-    "a mantissa of pulses": turned(
-        "decoder.pulses", CODEC, "FAC = (18431, 20479, 22527", "FAC = (18431, 20479, 23527"
-    ),
-    "a factor of ratios": turned(
-        "decoder.ratios", CODEC, "INVA = (13107, 13107, 13107", "INVA = (13107, 13607, 13107"
+    "no decoded lag above 110": turned(
+        "decoder.lag-gain", CODEC, "self.lag = block.nc", "self.lag = min(block.nc, 110)"
     ),
 }
 
@@ -161,6 +167,9 @@ SENDING: Dict[str, TurnedBox] = {
     ),
     "SP 1 alone": turned("line.downlink", CALL, "kind_of_sp(one.sp)", "kind_of_sp(True)"),
     "SP turned": turned("line.downlink", CALL, "kind_of_sp(one.sp)", "kind_of_sp(not one.sp)"),
+    "a sync bit of 0": turned(
+        "line.sync", "rules.frame", '"0" * 16, "1" + control', '"0" * 16, "0" + control'
+    ),
     "shifts of 5 octets a step": turned(
         "line.shift", PROFILE, "STEP_OCTETS = 4", "STEP_OCTETS = 5"
     ),

@@ -8,14 +8,18 @@ from trau.rules.parameters import Parameters
 from trau.suite.box_decoder import HOME, STANDARD, DecoderTables, decode
 from trau.suite.box_laws import Ranges, agreeing
 
-Frames = Sequence[Tuple[Parameters, bytes]]  # what came, and what the box made of it
+Row = List[Tuple[Parameters, bytes]]  # frames that came in a row, and what the box made of each
 
-SETTLED = 5
+SETTLED = 7  # frames in which what came before a row is forgotten
+SOON_SETTLED = 5  # where no row is longer
+MOST_FRAMES = 16  # of a row that are decoded
+MOST_ROWS = 4
 MOST_MISS = 2000  # a sample that is further off counts as so far
 SMALLER = 0.93  # a turn that leaves more than this part of the misses isn't looked at closer
 CLEAR = 3  # the right number leaves so many times fewer octets unexplained than any other
 CANDIDATES = 3
 HALVINGS = 11
+FINE_STEPS = (64, 32, 16, 8, 4, 2, 1)
 
 # The fields of the tables that have one number a case, and the rule of each.
 NUMBERS = {
@@ -71,18 +75,25 @@ def replaced(field: str, place: int, value: int) -> DecoderTables:
 
 
 class Explainer:
-    """Decodes a stretch by turned tables and counts what isn't explained."""
+    """Decodes rows of frames by turned tables and counts what isn't explained."""
 
-    def __init__(self, frames: Frames, ranges: Ranges) -> None:
-        self.frames, self.ranges = frames, ranges
+    def __init__(self, rows: Sequence[Row], ranges: Ranges) -> None:
+        self.rows, self.ranges = rows, ranges
+        longest = max(map(len, rows), default=0)
+        self.settled = SETTLED if longest > SETTLED else SOON_SETTLED
+
+    def first_row(self) -> "Explainer":
+        """The same with the first row alone, which is faster."""
+        return Explainer(self.rows[:1], self.ranges)
 
     def samples(self, tables: DecoderTables) -> Iterator[Tuple[List[int], bytes]]:
         """The settled frames' samples and octets."""
-        state = HOME
-        for k, (parameters, octets) in enumerate(self.frames):
-            samples, state = decode(tables, state, parameters)
-            if k >= SETTLED:
-                yield samples, octets
+        for row in self.rows:
+            state = HOME
+            for k, (parameters, octets) in enumerate(row):
+                samples, state = decode(tables, state, parameters)
+                if k >= self.settled:
+                    yield samples, octets
 
     def misses(self, tables: DecoderTables) -> int:
         """How far all samples are from what their octets allow."""
@@ -99,9 +110,13 @@ class Explainer:
         fit = sum(agreeing(self.ranges, samples, octets) for samples, octets in pairs)
         return fit / max(1, sum(len(samples) for samples, _ in pairs))
 
-    def likely(self, before: int) -> List[Likely]:
+    def unexplained(self, row: Row) -> float:
+        """The part of a row's octets that the standard doesn't explain."""
+        return 1 - Explainer([row], self.ranges).explained(STANDARD)
+
+    def likely(self) -> List[Likely]:
         """The numbers that leave fewer misses if they are turned a little, the fewest first."""
-        found = []
+        before, found = self.misses(STANDARD), []
         for field in NUMBERS:
             for place, value in enumerate(getattr(STANDARD, field)):
                 step = max(LEAST_STEP.get(field, 1), abs(value) // 32)
@@ -125,6 +140,21 @@ class Explainer:
             step = max(1, step // 2)
         return best
 
+    def part(self, one: Likely) -> float:
+        """The part of the octets that a number explains."""
+        return self.explained(replaced(one.field, one.place, one.value))
+
+    def finest(self, start: Likely) -> Likely:
+        """The value near one that explains the most: misses are also left by what came before."""
+        best, most = start, self.part(start)
+        for step in FINE_STEPS:
+            for value in (best.value - step, best.value + step):
+                other = best._replace(value=value)
+                part = self.part(other)
+                if part > most:
+                    best, most = other, part
+        return best
+
 
 Explanation = Tuple[float, Turned]
 
@@ -137,18 +167,45 @@ def turned_ways(explainer: Explainer) -> Iterator[Explanation]:
 
 def turned_numbers(explainer: Explainer) -> Iterator[Explanation]:
     """Numbers that are turned, with the part of the octets that each explains."""
-    for start in explainer.likely(explainer.misses(STANDARD)):
-        best = explainer.closest(start)
-        part = explainer.explained(replaced(best.field, best.place, best.value))
-        name = f"{best.field.upper()}[{best.place}] about {best.value}"
+    found: List[Likely] = []
+    for start in explainer.first_row().likely():
+        misses = explainer.misses(replaced(start.field, start.place, start.value))
+        found.append(explainer.closest(start._replace(misses=misses)))
+    found.sort(key=explainer.part, reverse=True)
+    for k, each in enumerate(found):
+        best = explainer.finest(each) if k == 0 else each
+        part = explainer.part(best)
+        about = "" if part == 1 else "about "
+        name = f"{best.field.upper()}[{best.place}] {about}{best.value}"
         allowed = str(getattr(STANDARD, best.field)[best.place])
         yield part, Turned(NUMBERS[best.field], name, allowed)
 
 
-def turned_rule(frames: Frames, ranges: Ranges) -> Optional[Turned]:
-    """The rule of the decoder that these frames, one after the other, don't keep: the one that
-    explains nearly all of what the standard doesn't, if no other does so too."""
-    explainer = Explainer(frames, ranges)
+def pieces(row: Row) -> Iterator[Row]:
+    """The pieces of a row, each long enough to be looked at."""
+    for start in range(0, len(row), MOST_FRAMES):
+        piece = row[start : start + MOST_FRAMES]
+        if len(piece) > SOON_SETTLED:
+            yield piece
+
+
+def telling_rows(rows: Sequence[Row], ranges: Ranges) -> List[Row]:
+    """A few long rows of which the standard explains the least."""
+    found = [piece for row in rows for piece in pieces(row)]
+    found.sort(key=len, reverse=True)
+    longest = found[: 4 * MOST_ROWS]
+    explainer = Explainer(longest, ranges)
+    longest.sort(key=lambda row: -explainer.unexplained(row) * (len(row) - SOON_SETTLED))
+    return longest[:MOST_ROWS]
+
+
+def turned_rule(rows: Sequence[Row], ranges: Ranges) -> Optional[Turned]:
+    """The rule of the decoder that these rows of frames don't keep: the one that explains nearly
+    all of what the standard doesn't, if no other does so too."""
+    telling = telling_rows(rows, ranges)
+    if not telling:
+        return None
+    explainer = Explainer(telling, ranges)
     left = 1 - explainer.explained(STANDARD)
     found = [*turned_ways(explainer), *turned_numbers(explainer)]
     found.sort(key=lambda one: -one[0])

@@ -51,6 +51,19 @@ class LineAlignment(NamedTuple):
     is_exact: bool
 
 
+class JudgedSide(NamedTuple):
+    """What was found of a side: how the lines lie, and how many frames there were."""
+
+    alignment: LineAlignment
+    place: int  # of the first frame, a bit of the line of frames
+    frames: int
+
+    def milliseconds(self) -> float:
+        """From the first bit of a frame of the one line to its first octet on the other, if both
+        begin at one moment."""
+        return (self.alignment.first + self.alignment.bit / 8) / 8
+
+
 def peak_of(samples: Sequence[int]) -> int:
     """The greatest magnitude."""
     return max(abs(sample) for sample in samples)
@@ -263,7 +276,10 @@ def alignment_of(
     """Where a line has the stretches; refused if that isn't sure."""
     if not stretches:
         raise NotSure("there are no five good, loud speech frames in a row")
-    found = found_exactly(stretches, bits, laws) or found_by_likeness(stretches, bits, laws)
+    found = found_exactly(stretches, bits, list(Law))
+    if found and found.law not in laws:
+        raise NotSure(f"the line has {found.law.value}, and not the law that was said")
+    found = found or found_by_likeness(stretches, bits, laws)
     if found is None:
         raise NotSure("the delay isn't sure: no place has clearly the most of the speech")
     return found

@@ -6,7 +6,7 @@ from typing import Callable, List, NamedTuple, Optional, Sequence, Tuple
 
 from trau.model import codec
 from trau.recordings.code_word import LEAST_ERRORS_OF_SPEECH, errors_of
-from trau.rules.frame import Bits, DownFrame, FrameKind, read_down, write_down
+from trau.rules.frame import Bits, FrameKind, read_down, write_down
 from trau.rules.parameters import Parameters, parameters_of_bits
 from trau.rules.profile import FRAME_BITS
 from trau.rules.search import FRAME_OF_DOWNLINK
@@ -21,11 +21,15 @@ from trau.suite.box_analysis import (
 from trau.suite.box_encoder import UNKNOWN, Difference, EncoderTrack, Followed, Stage
 from trau.suite.box_findings import Findings, Place
 from trau.suite.box_decoder import doubt_after
+from trau.suite.box_unexplained import LEAST_JUDGED
 
 SAMPLES = 160
 SYNC_PLACES = (*range(16), *range(16, FRAME_BITS, 16))
 MOST_WRONG_SYNC = 6
 FEW_FRAMES = 5
+LOUD = 1024  # a peak of frames that confirm the encoder's state
+FRAMES_FROM_START = 5  # loud ones that confirm that it began with the recording
+LEAST_HIDDEN = 3  # descriptors that are sent as speech
 FRAMES_TO_KNOW = 2
 BEFORE_PREEMPHASIS = ("encoder.downscaling", "encoder.offset", "encoder.preemphasis")
 LATER_STAGES = ("encoder.lag", "encoder.lag-gain", "encoder.grid", "encoder.pulses")
@@ -41,10 +45,15 @@ class SentDown(NamedTuple):
     parameters: Parameters
     wrong_bits: int  # of the code word of silence descriptors
 
-    def said_by_data(self) -> FrameKind:
-        """Its kind, if its data bits are plainly of another than its bit SP says."""
+    def is_like_descriptor(self) -> bool:
+        """Whether its data bits may be those of a descriptor."""
         is_one = len({block.xmaxc for block in self.parameters.blocks}) == 1
-        if self.kind is FrameKind.SPEECH and self.wrong_bits == 0 and is_one:
+        return self.wrong_bits == 0 and is_one
+
+    def said_by_data(self, hides: bool) -> FrameKind:
+        """Its kind, if its data bits are plainly of another than its bit SP says; `hides` says that
+        the box sends descriptors as speech."""
+        if hides and self.kind is FrameKind.SPEECH and self.is_like_descriptor():
             return FrameKind.VALID_SID
         if self.kind is FrameKind.VALID_SID and self.wrong_bits >= LEAST_ERRORS_OF_SPEECH:
             return FrameKind.SPEECH
@@ -107,28 +116,38 @@ def judge_gaps(line: Bits, places: Sequence[int], findings: Findings) -> None:
 
 def down_periods(line: Bits, findings: Findings) -> List[SentDown]:
     """The frames of a downlink."""
-    found = []
     all_found = matches(line, findings)
     judge_gaps(line, [place for place, _ in all_found], findings)
+    found = []
     for place, bits in all_found:
         frame = read_down(bits)
-        findings.held("line.sync")
         parameters = parameters_of_bits(frame.data)
-        each = SentDown(place, frame.kind, parameters, errors_of(frame.data))
-        judge_control(each, frame, bits, findings)
-        found.append(each._replace(kind=each.said_by_data()))
-    return found
+        found.append(SentDown(place, frame.kind, parameters, errors_of(frame.data)))
+    hides = hides_descriptors(found)
+    for each, (_, bits) in zip(found, all_found):
+        findings.held("line.sync")
+        judge_control(each, bits, hides, findings)
+    return [each._replace(kind=each.said_by_data(hides)) for each in found]
 
 
-def judge_control(each: SentDown, frame: DownFrame, bits: Bits, findings: Findings) -> None:
+def hides_descriptors(frames: Sequence[SentDown]) -> bool:
+    """Whether a box sends descriptors with the bit SP of speech. Of a box that doesn't, a frame or
+    two of a constant line may look like that."""
+    like = [each.kind for each in frames if each.is_like_descriptor()]
+    hidden, marked = like.count(FrameKind.SPEECH), like.count(FrameKind.VALID_SID)
+    return hidden >= LEAST_HIDDEN and hidden > marked
+
+
+def judge_control(each: SentDown, bits: Bits, hides: bool, findings: Findings) -> None:
     """Holds control bits to this project's."""
+    frame = read_down(bits)
     if frame.kind is FrameKind.OTHER:
         findings.broken("line.downlink", each.where(), f"C1 to C5 are {bits[17:22]}", "11100")
         return
     ours = write_down(frame)
     control, wanted = bits[17:32] + bits[310:316], ours[17:32] + ours[310:316]
     findings.judge("line.downlink", control == wanted, each.where(), f"C {control}", wanted)
-    kind = each.said_by_data()
+    kind = each.said_by_data(hides)
     if frame.is_speech() and kind is not frame.kind:
         words = {FrameKind.SPEECH: "speech", FrameKind.VALID_SID: "a silence descriptor"}
         sp = int(frame.kind is FrameKind.SPEECH)
@@ -143,11 +162,19 @@ class SendJudge:
         self.track = EncoderTrack()
         self.was_exact = False
         self.after_hidden = False
+        self.is_initial = True  # whether no frame contradicts that the encoder began anew
+        self.loud_matches = 0  # frames that confirm it
         self.matched = 0  # frames in a row that are the encoder's
-        self.matches = 0  # all of them
+        self.places: List[Place] = []  # of all of them
+        self.unknown: List[Place] = []  # of frames that differ, but whose past isn't known
         self.first = 0
         self.coded: List[EncodedFrame] = []
         self.counted: List[Tuple[Place, Followed]] = []
+
+    @property
+    def matches(self) -> int:
+        """How many frames are the encoder's."""
+        return len(self.places)
 
     def run(self, frames: Sequence[SentDown], samples: Sequence[int], first: int) -> None:
         """Follows all frames; `first` is the sample of the frame at bit 0."""
@@ -171,6 +198,7 @@ class SendJudge:
         self.track.start_anew()
         self.was_exact = self.after_hidden = False
         self.matched = 0
+        self.is_initial, self.loud_matches = True, 0
 
     def frame(self, each: SentDown, part: List[int], follows: bool) -> None:
         """Follows one frame."""
@@ -187,23 +215,31 @@ class SendJudge:
     def judge_sent(self, each: SentDown, followed: Followed) -> None:
         """Holds a frame that was sent as speech to the encoder's."""
         if not followed.differences:
-            self.matches += 1
+            self.places.append(each.where())
             self.matched += 1
+            self.loud_matches += self.is_initial and followed.peak >= LOUD
             self.was_exact = self.matched >= FRAMES_TO_KNOW
             self.after_hidden = False
             return
+        self.is_initial = self.is_initial and self.loud_matches >= FRAMES_FROM_START
         was_hidden, self.after_hidden = self.after_hidden, False
         if was_hidden:
             self.track.doubt = doubt_after(UNKNOWN, codec.LEAST_LAG, each.parameters)
         known = [
             one
             for one in followed.differences
-            if (followed.knows_ratios if one.stage is Stage.RATIOS else followed.knows_past)
-            and not was_hidden
+            if (self.is_initial or self.is_known(followed, one.stage)) and not was_hidden
         ]
         self.was_exact, self.matched = False, 0
         if known:
             self.counted.append((each.where(), followed._replace(differences=known)))
+        else:
+            self.unknown.append(each.where())
+
+    @staticmethod
+    def is_known(followed: Followed, stage: Stage) -> bool:
+        """Whether what a stage depends on is known, wherever the recording begins."""
+        return followed.knows_ratios if stage is Stage.RATIOS else followed.knows_past
 
     def analysed(self) -> List[AnalysedFrame]:
         """The frames of the longest row, for the steps before the coded ratios."""
@@ -247,6 +283,17 @@ class SendJudge:
                 self.findings.broken(stage_rule, place, sent, one.expected)
             else:
                 self.findings.suspect(LATER_RULES, place, text_of(followed))
+        judged = self.matches + len(self.counted)
+        if (
+            self.unknown
+            and not self.counted
+            and judged < LEAST_JUDGED * (judged + len(self.unknown))
+        ):
+            self.findings.not_sure(
+                self.unknown[0],
+                f"the encoder's state isn't known; {len(self.unknown)} of"
+                f" {judged + len(self.unknown)} speech frames aren't judged",
+            )
 
     def part(self, holds: Callable[[Difference], bool]) -> List[Tuple[Place, Followed]]:
         """The frames with differences of some stages, with these alone."""

@@ -42,6 +42,13 @@ class Suspects(NamedTuple):
     measured: str
 
 
+class Unsure(NamedTuple):
+    """Something that no rule explains, or that couldn't be judged: where it is first, and what."""
+
+    place: Place
+    said: str
+
+
 class Standing(enum.Enum):
     """How a rule stands; the value is its word in texts. A rule of level `own` that the box doesn't
     keep is `other`: it isn't held against it."""
@@ -63,6 +70,26 @@ class Findings:
         self.draws: Dict[str, int] = {}
         self.notes: List[str] = []
         self.suspects: List[Suspects] = []
+        self.unsure: List[Unsure] = []
+
+    def add(self, other: "Findings") -> None:
+        """Adds what was found elsewhere."""
+        for rule, times in other.times.items():
+            self.held(rule, times)
+        for rule, breaches in other.breaches.items():
+            self.breaches.setdefault(rule, []).extend(breaches)
+        for rule, times in other.draws.items():
+            self.drawn(rule, times)
+        self.suspects += other.suspects
+        self.unsure += other.unsure
+        for note in other.notes:
+            self.note(note)
+
+    def forget(self, rules: Sequence[str]) -> None:
+        """Leaves out what was found of rules."""
+        for rule in rules:
+            self.times.pop(rule, None)
+            self.breaches.pop(rule, None)
 
     def held(self, rule: str, times: int = 1) -> None:
         """Counts places at which a rule was held."""
@@ -91,6 +118,10 @@ class Findings:
     def suspect(self, rules: Sequence[str], place: Place, measured: str) -> None:
         """Notes that one of some rules is broken, where it can't be said which."""
         self.suspects.append(Suspects(tuple(rules), place, measured))
+
+    def not_sure(self, place: Place, said: str) -> None:
+        """Notes what no rule explains, or what couldn't be judged."""
+        self.unsure.append(Unsure(place, said))
 
     def note(self, text: str) -> None:
         """Something that is worth knowing, once."""

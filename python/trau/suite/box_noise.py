@@ -18,8 +18,9 @@ ANY_MAXIMUM = tuple(range(64))
 MOST_STEPS = 33  # in which a box may approach a descriptor
 MOST_RATIO_SEARCHES = 2
 MOST_WAY_SEARCHES = 4
+MOST_FAILURES = 4  # periods in which all searches find nothing
 MOST_CODE = 7  # of a pulse
-MOST_STATES_OF_MAXIMA = 4  # with more a search for any maxima takes too long
+MOST_STATES_OF_MAXIMA = 4  # with more a search for what isn't likely takes too long
 RATIO_WIDTHS = (6, 6, 5, 5, 4, 4, 3, 3)
 
 Values = Tuple[int, ...]  # eight ratios and four block maxima
@@ -77,7 +78,7 @@ class NoiseJudge:
         self.fall_step = MUTING_STEP
         self.fall = 0  # how often the box's noise has fallen, if not as the rule says
         self.was_silent = False
-        self.ratio_searches = self.way_searches = 0
+        self.ratio_searches = self.way_searches = self.failures = 0
         self.was_known = False  # whether the noise of the period before was found
 
     # What the noise should stand at, for each way to approach.
@@ -115,13 +116,23 @@ class NoiseJudge:
     def search(self, situation: Situation, octets: bytes) -> Explained:
         """The frames that the noise of a period may have been, those of the fewest changes."""
         self.step(situation)
-        for found in self.tries(situation, octets):
+        for found in self.likely(situation, octets):
             if found.frames:
                 return found
         return Explained([], True)
 
-    def tries(self, situation: Situation, octets: bytes) -> Iterator[Explained]:
-        """The searches, the most likely first."""
+    def search_further(self, situation: Situation, octets: bytes) -> Explained:
+        """The frames of more changes, where those of few aren't it."""
+        if self.failures >= MOST_FAILURES or len(self.track.states) > MOST_STATES_OF_MAXIMA:
+            return Explained([], True)
+        for found in self.unlikely(situation, octets):
+            if found.frames:
+                return found
+        self.failures += 1
+        return Explained([], True)
+
+    def likely(self, situation: Situation, octets: bytes) -> Iterator[Explained]:
+        """The searches for what is likely, the most likely first."""
         base = self.bases[self.approach]
         fall = min(situation.falling, SILENT_FROM_FALL)
         if fall >= SILENT_FROM_FALL or self.was_silent:
@@ -135,6 +146,12 @@ class NoiseJudge:
                 yield self.falling_to(other, base, octets)
         if self.approach != OURS:
             yield self.by(self.ways, self.bases[OURS], fall, octets)
+
+    def unlikely(self, situation: Situation, octets: bytes) -> Iterator[Explained]:
+        """The searches for what is less likely. They take long, so they end after a few periods in
+        which none finds anything."""
+        base = self.bases[self.approach]
+        fall = min(situation.falling, SILENT_FROM_FALL)
         yield self.one_way_changed(base, fall, octets)
         yield self.all_ways_changed(base, fall, octets)
         for approach, values in self.other_bases():
@@ -207,8 +224,6 @@ class NoiseJudge:
 
     def any_maxima(self, larc: Sequence[int], octets: bytes) -> Explained:
         """A search with any block maxima."""
-        if len(self.track.states) > MOST_STATES_OF_MAXIMA:
-            return Explained([], False)
         spaces = [self.ways.space(number, ANY_MAXIMUM) for number in range(4)]
         return self.track.searched(larc, spaces, octets)
 

@@ -6,6 +6,7 @@ from trau.model import codec
 from trau.rules.frame import FrameKind
 from trau.rules.parameters import Block, Parameters
 
+from trau.suite.box_analysis import RATIO_RULES
 from trau.suite.box_downlink import EncodedFrame
 from trau.suite.box_findings import Findings
 
@@ -127,6 +128,11 @@ class PauseJudge:
             self.compare(each, row[k - 1], ours)
             self.was_ours = each.sent.parameters == ours
 
+    def repeats(self) -> bool:
+        """Whether a descriptor that is the one before again can't be a new one: the one before was
+        this project's, and the box codes ratios as the standard does."""
+        return self.was_ours and not any(map(self.findings.breaches.get, RATIO_RULES))
+
     def compare(self, each: EncodedFrame, before: EncodedFrame, ours: Parameters) -> None:
         """Holds a descriptor to this project's."""
         sent = each.sent.parameters
@@ -135,7 +141,7 @@ class PauseJudge:
             self.findings.held("send.every-frame")
         elif each.sent.wrong_bits or not is_one(sent):
             return
-        elif is_hidden(before) and sent == before.sent.parameters and self.was_ours:
+        elif is_hidden(before) and sent == before.sent.parameters and self.repeats():
             self.findings.broken(
                 "send.every-frame", each.sent.where(), "the descriptor before again", "a new one"
             )

@@ -3,19 +3,23 @@ ones, noise, and where the call is quiet (docs/CONFORMANCE.md, "Judge a box").""
 
 from typing import Dict, List, NamedTuple, Optional, Sequence, Tuple
 
-from trau.rules.parameters import SILENCE, Block, Parameters
-from trau.rules.profile import MUTING_STEP, SILENT_FROM_LOST
+from trau.rules.g711 import Law
+from trau.rules.parameters import SILENCE, Block, Parameters, parameters_of_bits
+from trau.rules.profile import MISSES_TO_HUNT, MUTING_STEP, SILENT_FROM_LOST
 
 from trau.suite.box_decoder import HOME, STANDARD, decode
 from trau.suite.box_findings import Findings, Place, place_of
+from trau.suite.box_kinds import KindJudge, Taken
 from trau.suite.box_laws import agreeing
 from trau.suite.box_noise import NoiseJudge
 from trau.suite.box_search import GRIDS, BlockSpace, Explained, known_pulses
-from trau.suite.box_track import StateTrack, Wrong
-from trau.suite.box_uplink import Hears, Situation
+from trau.suite.box_track import StateTrack, Wrong, is_loud
+from trau.suite.box_unexplained import PeriodCounts, is_flat
+from trau.suite.box_uplink import Hears, Situation, UpPeriod
 
 ANY_MAXIMUM = tuple(range(64))
 FRAMES_TO_DIFFER = 3
+FEW_OCTETS = 4  # of a frame that differ as by errors of a line, not by another decoder
 NEARLY = 0.97  # of the octets of frames that hardly differ
 MOST_OF_SILENCE = 64  # the peak of what silence decodes to, with what the filters still hold
 DECODER = (
@@ -30,11 +34,18 @@ DECODER = (
 
 
 class HeardPeriod(NamedTuple):
-    """A period of the A side: its place on the line, what the receiver knew, and its octets."""
+    """A period of the A side: its place on the line, what came, what the receiver knew, and its
+    octets."""
 
     place: Place
+    period: UpPeriod
     situation: Situation
     octets: bytes
+
+    def own(self) -> Optional[Parameters]:
+        """The parameters of what is at the period's place on the uplink."""
+        data = self.period.data()
+        return parameters_of_bits(data) if data else None
 
 
 def maxima(parameters: Parameters) -> Tuple[int, ...]:
@@ -57,41 +68,50 @@ def space_of(block: Block, tops: Sequence[int], positions: Sequence[int]) -> Blo
 class ReceiveJudge:
     """Judges the periods of a call, from the first on."""
 
-    def __init__(self, track: StateTrack, findings: Findings, idle: int) -> None:
-        self.track, self.findings, self.idle = track, findings, idle
+    def __init__(self, track: StateTrack, findings: Findings, law: Law) -> None:
+        self.track, self.findings, self.idle = track, findings, law.idle()
+        self.counts, self.kinds = PeriodCounts(law), KindJudge(findings)
         self.noise = NoiseJudge(track, findings)
         self.before: Optional[Parameters] = None  # what the box decoded in the period before
         self.is_pure = False  # since the last search two frames that came were found as they are
         self.wrong: List[Wrong] = []
         self.pending: List[Tuple[float, Wrong]] = []  # wrong, if the state isn't known soon
+        self.is_begun = False
+        self.since_anew = MISSES_TO_HUNT  # periods since frames came at another place
+        self.mistaken: Optional[Situation] = None  # after a frame that it shouldn't have decoded
         self.fall_of: Dict[int, int] = {}  # how far the box mutes the n-th lost frame
-        self.unexplained: Dict[Hears, List[Place]] = {Hears.LOST: [], Hears.NOISE: []}
 
     def run(self, periods: Sequence[HeardPeriod]) -> None:
         """Judges all periods."""
+        for each in periods:
+            if each.situation.hears is not Hears.GOOD:
+                self.end_of_run()
+            self.period(each)
+            self.noise.heard(each.situation)
+        self.end_of_run()
+
+    def period(self, heard: HeardPeriod) -> None:
+        """Judges a period by what the box has for the last speech: a frame that it decoded, though
+        it shouldn't have, counts as good for what follows."""
         judges = {
             Hears.GOOD: self.good,
             Hears.LOST: self.lost,
             Hears.NOISE: self.in_noise,
             Hears.QUIET: self.quiet,
         }
-        for each in periods:
-            if each.situation.hears is not Hears.GOOD:
-                self.end_of_run()
-            if each.situation.hears is Hears.UNKNOWN:
-                self.track.lose()
-                self.before = None
-            else:
-                judges[each.situation.hears](each)
-            self.noise.heard(each.situation)
-        self.end_of_run()
-        for hears, places in self.unexplained.items():
-            if places:
-                what = "lost speech" if hears is Hears.LOST else "noise"
-                self.findings.note(
-                    f"{what}: no frame that was searched gives the octets of {len(places)} periods, "
-                    f"the first {places[0].text()}"
-                )
+        is_moved = self.is_begun and heard.period.is_anew
+        self.since_anew = 0 if is_moved else self.since_anew + 1
+        self.is_begun = True
+        mistaken, self.mistaken = self.mistaken, None
+        if heard.situation.hears is Hears.UNKNOWN:
+            self.track.lose()
+            self.before = None
+        elif mistaken is None or heard.situation.since == 0:
+            judges[heard.situation.hears](heard)
+        else:
+            situation = Situation(Hears.LOST, mistaken.anchor, mistaken.since + 1)
+            self.mistaken = situation
+            self.lost(heard._replace(situation=situation))
 
     def end_of_run(self) -> None:
         """At the end of good frames in a row: those that should have been explained weren't, unless
@@ -118,6 +138,8 @@ class ReceiveJudge:
         found = self.track.exactly(parameters, heard.octets)
         if found.frames:
             self.findings.held("lost.as-it-came")
+            self.counts.judged(Hears.GOOD)
+            self.kinds.judge(heard.place, heard.period, Taken.SPEECH)
             self.hold_decoder(parameters)
             self.is_pure = True
             self.taken(found)
@@ -139,30 +161,76 @@ class ReceiveJudge:
         self.before = parameters
         if fits and self.track.is_sure:
             self.findings.held("lost.as-it-came", 2)
+            self.counts.judged(Hears.GOOD, with_last=True)
+            self.kinds.judge(heard.place, heard.period, Taken.SPEECH)
             self.hold_decoder(parameters)
             self.is_pure = True
             self.pending = []
-        elif not fits and was_converged:
+            return
+        if is_flat(heard.octets) and is_loud(samples):
+            self.counts.unexplained(heard.situation, heard.place, heard.octets)
+            self.track.lose()
+            return
+        self.counts.passed(Hears.GOOD, heard.place)
+        if not fits and was_converged:
             part = agreeing(self.track.ranges, samples, heard.octets) / len(samples)
-            wrong = Wrong(heard.place.period, parameters, heard.octets, before)
+            wrong = Wrong(heard.place.period, parameters, heard.octets, before, False)
             self.pending.append((part, wrong))
 
     def not_as_it_came(self, heard: HeardPeriod, parameters: Parameters) -> None:
-        """A good frame that isn't decoded as it came: changed before it was decoded, or decoded by
-        other numbers."""
-        spaces = [space_of(block, ANY_MAXIMUM, GRIDS) for block in parameters.blocks]
-        found = self.track.searched(parameters.larc, spaces, heard.octets)
-        if found.frames:
-            changed = found.frames[0][0]
-            measured = f"block maxima {maxima(changed)} and grid positions {grids(changed)}"
-            allowed = f"{maxima(parameters)} and {grids(parameters)}, as they came"
-            self.findings.broken("lost.as-it-came", heard.place, measured, allowed)
-            self.taken(found)
+        """A good frame that isn't decoded as it came: changed before it was decoded, replaced by
+        the frame before, or decoded by other numbers."""
+        if self.since_anew < MISSES_TO_HUNT:
+            self.not_yet_found(heard, parameters)
             return
+        found = self.changed(heard, parameters)
+        if not found.frames:
+            self.not_explained(heard, parameters)
+            return
+        self.counts.judged(Hears.GOOD)
+        changed = found.frames[0][0]
+        measured = f"block maxima {maxima(changed)} and grid positions {grids(changed)}"
+        if changed == self.before:
+            measured = "the frame before again"
+        allowed = f"{maxima(parameters)} and {grids(parameters)}, as they came"
+        self.findings.broken("lost.as-it-came", heard.place, measured, allowed)
+        self.taken(found)
+
+    def not_yet_found(self, heard: HeardPeriod, parameters: Parameters) -> None:
+        """A good frame, soon after frames came at another place, that the box may not have found."""
+        measured = "a frame at a new place isn't decoded"
+        self.findings.judge("search.place", False, heard.place, measured, "decoded")
+        self.counts.passed(Hears.GOOD, heard.place)
+        self.track.lose(decode(STANDARD, self.track.states[0], parameters)[1])
+        self.before, self.is_pure = None, False
+
+    def changed(self, heard: HeardPeriod, parameters: Parameters) -> Explained:
+        """What a good frame may have been changed to."""
+        if self.before is not None:
+            found = self.track.exactly(self.before, heard.octets)
+            if found.frames:
+                return found
+        spaces = [space_of(block, ANY_MAXIMUM, GRIDS) for block in parameters.blocks]
+        return self.track.searched(parameters.larc, spaces, heard.octets)
+
+    def not_explained(self, heard: HeardPeriod, parameters: Parameters) -> None:
+        """A good frame that no change explains: the line has no sound, or the decoder is another."""
         state = self.track.states[0]
-        if self.is_pure and len(self.track.states) == 1:
-            self.wrong.append(Wrong(heard.place.period, parameters, heard.octets, state))
-        self.track.lose(decode(STANDARD, state, parameters)[1])
+        samples, after = decode(STANDARD, state, parameters)
+        others = len(samples) - agreeing(self.track.ranges, samples, heard.octets)
+        if others <= FEW_OCTETS:
+            said = f"a good frame has other octets: {others}"
+            self.counts.left_open(heard.situation, heard.place, said)
+            self.track.states, self.before = [after], parameters
+            return
+        if is_flat(heard.octets) and is_loud(samples):
+            self.counts.unexplained(heard.situation, heard.place, heard.octets)
+        else:
+            self.counts.passed(Hears.GOOD, heard.place)
+            if self.is_pure and len(self.track.states) == 1:
+                wrong = Wrong(heard.place.period, parameters, heard.octets, state, True)
+                self.wrong.append(wrong)
+        self.track.lose(after)
         self.before, self.is_pure = None, False
 
     # Lost frames.
@@ -176,29 +244,47 @@ class ReceiveJudge:
             return
         self.is_pure = self.is_pure and n == 1
         found = self.substitute(heard, good, n)
+        if not found.frames and self.is_own(heard):
+            return
         if not found.frames:
-            self.unexplained[Hears.LOST].append(heard.place)
+            self.counts.unexplained(heard.situation, heard.place, heard.octets)
             self.peak_of_silence(heard, n)
             self.track.lose(decode(STANDARD, self.track.states[0], good)[1])
             self.before = None
             return
+        self.counts.judged(Hears.LOST)
+        self.kinds.judge(heard.place, heard.period, Taken.LOST)
         self.judge_lost(heard, good, n, [parameters for parameters, _ in found.frames])
         self.taken(found)
 
     def lost_unsure(self, heard: HeardPeriod, good: Parameters, n: int) -> None:
         """A lost frame while the decoder's state isn't known."""
+        self.counts.passed(Hears.LOST, heard.place)
         self.peak_of_silence(heard, n)
         self.track.lose(decode(STANDARD, self.track.states[0], good)[1])
         self.before = None
+
+    def is_own(self, heard: HeardPeriod) -> bool:
+        """Whether a box decoded what it shouldn't have: the frame that is at this period's place."""
+        own = heard.own()
+        found = self.track.exactly(own, heard.octets) if own else Explained([], True)
+        if found.frames:
+            self.counts.judged(heard.situation.hears)
+            self.kinds.judge(heard.place, heard.period, Taken.SPEECH)
+            self.mistaken = Situation(Hears.GOOD, own)
+            self.taken(found)
+        return bool(found.frames)
 
     def peak_of_silence(self, heard: HeardPeriod, n: int) -> None:
         """If the frame isn't known: silence is soft, one frame after it began."""
         if n > SILENT_FROM_LOST:
             ranges = [self.track.ranges[octet] for octet in heard.octets]
             least = max(max(0, first, -last) for first, last in ranges)
-            if least > MOST_OF_SILENCE:
-                allowed = f"silence, at most {MOST_OF_SILENCE}"
-                self.findings.broken("lost.silent", heard.place, f"a peak of {least}", allowed)
+            allowed = f"silence, at most {MOST_OF_SILENCE}"
+            is_silent = least <= MOST_OF_SILENCE
+            self.findings.judge(
+                "lost.silent", is_silent, heard.place, f"a peak of {least}", allowed
+            )
 
     def substitute(self, heard: HeardPeriod, good: Parameters, n: int) -> Explained:
         """What takes the place of the n-th lost frame: the most likely frames first."""
@@ -275,15 +361,22 @@ class ReceiveJudge:
         self.is_pure = False
         if not self.track.is_sure:
             self.noise.skip(heard.situation)
-            assert heard.situation.anchor is not None
+            self.counts.passed(Hears.NOISE, heard.place)
             self.track.lose()
             self.before = None
             return
         found = self.noise.search(heard.situation, heard.octets)
+        if not found.frames and self.is_own(heard):
+            self.noise.skip(heard.situation)
+            return
+        found = found if found.frames else self.noise.search_further(heard.situation, heard.octets)
         if found.frames:
+            self.counts.judged(Hears.NOISE)
+            is_new = heard.situation.since == 0
+            self.kinds.judge(heard.place, heard.period, Taken.DESCRIPTOR if is_new else Taken.LOST)
             self.noise.judge(heard.place, heard.situation, found, self.before)
         else:
-            self.unexplained[Hears.NOISE].append(heard.place)
+            self.counts.unexplained(heard.situation, heard.place, heard.octets)
             self.noise.skip(heard.situation)
         self.taken(found)
 
@@ -298,7 +391,7 @@ class ReceiveJudge:
 
 
 def heard_periods(
-    places: Sequence[int], known: Sequence[Situation], out: bytes, first: int
+    periods: Sequence[UpPeriod], known: Sequence[Situation], out: bytes, first: int
 ) -> List[HeardPeriod]:
     """The periods of the A side that a recording has; `first` is the octet at which the first
     period of the uplink begins there, which may be before the recording's."""
@@ -307,5 +400,6 @@ def heard_periods(
         start = first + 160 * k
         octets = out[max(0, start) : max(0, start + 160)]
         if start >= 0 and len(octets) == 160:
-            found.append(HeardPeriod(place_of(places[k]), situation, octets))
+            place = place_of(periods[k].number())
+            found.append(HeardPeriod(place, periods[k], situation, octets))
     return found

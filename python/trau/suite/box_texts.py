@@ -2,14 +2,14 @@
 
 import json
 from collections import Counter
-from typing import Dict, List, NamedTuple, Sequence
+from typing import Dict, Iterable, List, NamedTuple, Sequence
 
-from trau.suite.box_findings import Breach, Findings, Standing
-from trau.suite.box_sides import JudgedSide
-from trau.suite.cases import all_cases
-from trau.suite.rule_list import read_recorded_rules
+from trau.suite.box_findings import Breach, Findings, Standing, Unsure
+from trau.suite.box_delay import JudgedSide
+from trau.suite.rule_list import read_recorded
 
 NAME_WIDTH, LEVEL_WIDTH = 28, 8
+CASE_TO_SEND = "case call-alaw/recording"
 
 
 class Reported(NamedTuple):
@@ -30,12 +30,15 @@ class Reported(NamedTuple):
         )
 
 
-def sent_by_case() -> Dict[str, str]:
-    """What exercises each rule: the first case that does, or what a recording needs."""
-    found = {each.rule.identifier: each.send for each in read_recorded_rules()}
-    for case in all_cases():
-        for rule in case.rules:
-            found.setdefault(rule, f"case {case.name()}")
+def unexercised(rules: Iterable[str]) -> Dict[str, str]:
+    """What is said of each rule that a recording doesn't exercise: what to send, or that no
+    recording shows it."""
+    recorded = read_recorded()
+    found = {}
+    for rule in rules:
+        never = recorded.never.get(rule)
+        send = recorded.send.get(rule, CASE_TO_SEND)
+        found[rule] = f"a recording can't show this: {never}" if never else f"send {send}"
     return found
 
 
@@ -45,7 +48,7 @@ def breach_text(breach: Breach, is_own: bool) -> str:
     return f"{breach.place.text()}: measured {breach.measured}, {allowed} {breach.allowed}"
 
 
-def line_of(findings: Findings, rule: str, cases: Dict[str, str]) -> str:
+def line_of(findings: Findings, rule: str, others: Dict[str, str]) -> str:
     """The line of a rule."""
     standing, first = findings.standing(rule), findings.first(rule)
     times = findings.times.get(rule, 0)
@@ -58,7 +61,7 @@ def line_of(findings: Findings, rule: str, cases: Dict[str, str]) -> str:
     elif standing is Standing.HELD:
         said = f"held {times} times"
     else:
-        said = f"not exercised: send {cases[rule]}"
+        said = f"not exercised: {others[rule]}"
     level = findings.rules[rule].level.value
     return f"{rule:{NAME_WIDTH}}{level:{LEVEL_WIDTH}}{said}\n"
 
@@ -79,20 +82,21 @@ def suspect_lines(findings: Findings) -> List[str]:
 
 def text_of_box(findings: Findings, reported: Sequence[Reported], failures: Sequence[str]) -> str:
     """How each rule stands; nothing if no side was judged."""
-    if not reported and not findings.named():
+    if not reported:
         return ""
-    cases = sent_by_case()
+    others = unexercised(findings.rules)
     lines = [each.text() for each in reported]
     lines += [f"{note}\n" for note in findings.notes]
-    lines += [line_of(findings, rule, cases) for rule in findings.rules]
+    lines += [line_of(findings, rule, others) for rule in findings.rules]
     lines += suspect_lines(findings)
+    lines += [f"not sure at {each.place.text()}: {each.said}\n" for each in findings.unsure]
     counts = counts_of(findings)
     total = " ".join(f"{word} {count}" for word, count in counts.items())
     lines.append(f"rules {len(findings.rules)} {total}\n")
     return "".join(lines)
 
 
-def rule_object(findings: Findings, rule: str, cases: Dict[str, str]) -> Dict[str, object]:
+def rule_object(findings: Findings, rule: str, others: Dict[str, str]) -> Dict[str, object]:
     """A rule for JSON."""
     first, standing = findings.first(rule), findings.standing(rule)
     made: Dict[str, object] = {
@@ -111,7 +115,7 @@ def rule_object(findings: Findings, rule: str, cases: Dict[str, str]) -> Dict[st
             "allowed": first.allowed,
         }
     if standing is Standing.NOT_EXERCISED:
-        made["send"] = cases[rule]
+        made["said"] = others[rule]
     return made
 
 
@@ -132,9 +136,15 @@ def side_object(each: Reported) -> Dict[str, object]:
     }
 
 
+def unsure_object(each: Unsure) -> Dict[str, object]:
+    """What no rule explains, for JSON."""
+    seconds = round(each.place.seconds, 4)
+    return {"period": each.place.period, "seconds": seconds, "said": each.said}
+
+
 def json_of_box(findings: Findings, reported: Sequence[Reported], failures: Sequence[str]) -> str:
     """The same as JSON."""
-    cases = sent_by_case()
+    others = unexercised(findings.rules)
     suspects = [
         {
             "rules": list(each.rules),
@@ -147,8 +157,9 @@ def json_of_box(findings: Findings, reported: Sequence[Reported], failures: Sequ
     made = {
         "sides": [side_object(each) for each in reported],
         "failures": list(failures),
-        "rules": [rule_object(findings, rule, cases) for rule in findings.rules],
+        "rules": [rule_object(findings, rule, others) for rule in findings.rules],
         "suspects": suspects,
+        "unsure": [unsure_object(each) for each in findings.unsure],
         "notes": findings.notes,
         "counts": counts_of(findings),
     }

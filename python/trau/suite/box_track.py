@@ -24,6 +24,19 @@ FRAMES_TO_SETTLE = 7  # in which the short term filter forgets
 FRAMES_TO_KNOW = 2  # loud frames in a row that must match
 
 
+def is_loud(samples: Sequence[int]) -> bool:
+    """Whether a frame shows the decoder's state."""
+    return max(abs(sample) for sample in samples) >= LOUD
+
+
+class Resumed(NamedTuple):
+    """A state from which the box's decoder may have gone on, and the loud frames in a row that
+    match since."""
+
+    state: DecoderState
+    matched: int = 0
+
+
 class StateTrack:
     """The decoder's states that explain all octets so far. `is_sure` says that the box's own is one
     of them."""
@@ -35,9 +48,15 @@ class StateTrack:
         self.matched = 0  # loud frames in a row
         self.doubt: Sequence[float] = UNKNOWN
         self.followed = 0  # frames since the state was lost
+        self.last_sure = HOME
+        self.resumed: List[Resumed] = []
 
     def lose(self, state: Optional[DecoderState] = None) -> None:
-        """The box's state isn't known any longer; it may be like this one."""
+        """The box's state isn't known any longer; it may be like this one, or that of the last
+        frame that was explained, or the initial one."""
+        if self.is_sure:
+            self.last_sure = self.states[0]
+        self.resumed = [Resumed(each) for each in dict.fromkeys((self.last_sure, HOME))]
         self.states = [state or self.states[0]]
         self.is_sure, self.matched, self.doubt, self.followed = False, 0, UNKNOWN, 0
 
@@ -61,10 +80,23 @@ class StateTrack:
         self.doubt = doubt_after(self.doubt, self.states[0].lag, parameters)
         self.states = [state]
         fits = accepts(self.ranges, samples, octets)
-        is_loud = max(abs(sample) for sample in samples) >= LOUD
-        self.matched = self.matched + is_loud if fits else 0
+        self.matched = self.matched + is_loud(samples) if fits else 0
         self.is_sure = self.matched >= FRAMES_TO_KNOW
-        return fits, samples
+        return self.resume(parameters, octets) or fits, samples
+
+    def resume(self, parameters: Parameters, octets: Sequence[int]) -> bool:
+        """Goes on from the states at which the box may have stopped. Whether one of them is now
+        known to be the box's own."""
+        found = []
+        for each in self.resumed:
+            samples, state = decode(STANDARD, each.state, parameters)
+            if accepts(self.ranges, samples, octets):
+                found.append(Resumed(state, each.matched + is_loud(samples)))
+        self.resumed = found
+        known = [each.state for each in found if each.matched >= FRAMES_TO_KNOW]
+        if known and not self.is_sure:
+            self.states, self.is_sure = known[:1], True
+        return bool(known)
 
     def searched(
         self, larc: Sequence[int], spaces: Sequence[BlockSpace], octets: Sequence[int]
@@ -89,9 +121,11 @@ class StateTrack:
 
 
 class Wrong(NamedTuple):
-    """A frame that came, and what the box made of it, where that can't be."""
+    """A frame that came, and what the box made of it, where that can't be; and whether the box's
+    state before it is known, or should only be forgotten."""
 
     period: int
     parameters: Parameters
     octets: bytes
     state: DecoderState
+    is_known: bool

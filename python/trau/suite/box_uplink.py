@@ -10,10 +10,18 @@ from trau.rules.search import search
 
 
 class UpPeriod(NamedTuple):
-    """A period of an uplink: the bit at which its frame begins or should begin, and the frame."""
+    """A period of an uplink: the bit at which its frame begins or should begin, and the frame; where
+    its sync bits are wrong, what it would be; and whether it doesn't follow on the one before."""
 
     place: int
     frame: Optional[UpFrame]
+    missed: Optional[UpFrame] = None
+    is_anew: bool = False
+
+    def data(self) -> Optional[Bits]:
+        """D1 to D260 of what is at its place, whether or not a receiver may use it."""
+        what = self.frame or self.missed
+        return what.data if what else None
 
     def number(self) -> int:
         """The period of the line in which the frame ends."""
@@ -24,14 +32,16 @@ def up_periods(line: Bits) -> List[UpPeriod]:
     """The periods from the first frame on. Where the search hunts there is no frame."""
     found: List[UpPeriod] = []
     for each in search(line):
-        frame = read_up(each.frame) if each.frame else None
+        there = read_up(each.frame or line[each.place : each.place + FRAME_BITS])
+        frame, missed = (there, None) if each.frame else (None, there)
+        is_anew = not found or found[-1].place + FRAME_BITS != each.place
         if found:
             since = each.place - found[0].place
             number = (since + FRAME_BITS // 2) // FRAME_BITS
             found = found[:number]
             while len(found) < number:
                 found.append(UpPeriod(found[-1].place + FRAME_BITS, None))
-        found.append(UpPeriod(each.place, frame))
+        found.append(UpPeriod(each.place, frame, missed, is_anew))
     return found
 
 

@@ -34,6 +34,7 @@ Maker = Callable[[], Sequence[Case]]
 def all_cases() -> List[Case]:
     """All cases, in the order in which they are tried."""
     from trau.suite import call_cases, codec_cases, law_cases, line_cases, pause_cases
+    from trau.suite import recording_cases
 
     makers: Tuple[Maker, ...] = (
         law_cases.cases,
@@ -43,5 +44,6 @@ def all_cases() -> List[Case]:
         pause_cases.receiving_cases,
         pause_cases.sending_cases,
         call_cases.cases,
+        recording_cases.cases,
     )
     return [each for maker in makers for each in maker()]

@@ -54,6 +54,11 @@ class PeerRow(NamedTuple):
     cells: Dict[str, Cell]
 
 
+def count_of(row: PeerRow, verdict: Verdict) -> int:
+    """How many rules have this verdict."""
+    return sum(one.verdict is verdict for one in row.cells.values())
+
+
 def applies(peer: Peer, rule: Rule) -> bool:
     """Whether a peer is held to a rule."""
     is_lacking = rule.identifier.startswith(peer.lacks) if peer.lacks else False

@@ -39,13 +39,15 @@ class PeerFailed(Exception):
 
 class Peer(NamedTuple):
     """A peer. `lacks` are the rules, by the beginnings of their names, that don't apply to it; a
-    peer of this project is held to its own rules too."""
+    peer of this project is held to its own rules too. `codec` is the other peer whose codec it has.
+    """
 
     name: str
     version: str
     answers: Mapping[str, Answer]
     is_ours: bool = False
     lacks: Tuple[str, ...] = ()
+    codec: str = ""
 
 
 def version_of(package: str) -> str:
@@ -263,7 +265,7 @@ def ffmpeg_libgsm() -> Peer:
         "decode-wav": by_wav(piped(*start, "-c:a", "libgsm_ms", "-i", "pipe:0", *WORDS_OUT)),
         "encode-wav": lambda given: blocks_of_wav(in_wav(given)),
     }
-    return Peer("ffmpeg-libgsm", version_of("ffmpeg"), answers)
+    return Peer("ffmpeg-libgsm", version_of("ffmpeg"), answers, codec="libgsm")
 
 
 def sox() -> Peer:
@@ -282,7 +284,7 @@ def sox() -> Peer:
         back = operation.replace("expand", "compress").replace("decode", "encode")
         answers[operation] = piped(program, "-D", "-V1", *file, *raw)
         answers[back] = piped(program, "-D", "-V1", *raw, *file)
-    return Peer("sox", version_of("sox"), answers)
+    return Peer("sox", version_of("sox"), answers, codec="libgsm")
 
 
 def gstreamer() -> Peer:
@@ -311,12 +313,15 @@ def gstreamer() -> Peer:
         "mulaw-expand": line(f"{caps('mulaw')} ! mulawdec"),
         "mulaw-compress": line(f"{words} ! mulawenc"),
     }
-    return Peer("gstreamer", version_of(package), answers)
+    return Peer("gstreamer", version_of(package), answers, codec="libgsm")
 
 
 def by_command(command: str, is_ours: bool) -> Peer:
-    """A peer by a command that has the operation as its last word."""
+    """A peer by a command that has the operation as its last word. Raises NotThere if there is no
+    such program."""
     words = shlex.split(command)
+    if not words or shutil.which(words[0]) is None:
+        raise NotThere(f"{words[0] if words else 'a command without words'}: no such program")
     answers = {word: piped(*words, word) for word in OPERATIONS}
     return Peer(Path(words[0]).name if words else command, "", answers, is_ours)
 

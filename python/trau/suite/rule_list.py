@@ -29,11 +29,13 @@ class Rule(NamedTuple):
     constants: Dict[str, object]
 
 
-class RecordedRule(NamedTuple):
-    """A rule that no case exercises, only a recording of lines, and what such a recording needs."""
+class RecordedRules(NamedTuple):
+    """What suite/recorded.json says of recordings: the rules that they alone exercise, what to send
+    where the case for recordings doesn't exercise a rule, and why some rules are never shown."""
 
-    rule: Rule
-    send: str
+    rules: Tuple[Rule, ...]
+    send: Dict[str, str]
+    never: Dict[str, str]
 
 
 Entry = Dict[str, Any]
@@ -62,6 +64,12 @@ def read_rules() -> List[Rule]:
     return list(map(rule_of, entries_of("rules.json")))
 
 
-def read_recorded_rules() -> List[RecordedRule]:
-    """The rules that a recording alone exercises."""
-    return [RecordedRule(rule_of(entry), entry["send"]) for entry in entries_of("recorded.json")]
+def read_recorded() -> RecordedRules:
+    """What is said of recordings."""
+    found = json.loads((FOLDER / "recorded.json").read_text(encoding="utf-8"))
+    return RecordedRules(tuple(map(rule_of, found["rules"])), found["send"], found["never"])
+
+
+def judged_rules() -> List[Rule]:
+    """The rules by which a recording is judged."""
+    return [*read_rules(), *read_recorded().rules]

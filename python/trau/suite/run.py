@@ -14,7 +14,8 @@ from trau.suite.generator import expected_cases, write_all
 from trau.suite.matrix import Verdict, row_of
 from trau.suite.peers import NotThere, Peer, by_command, shipped
 from trau.suite.rule_list import read_rules
-from trau.suite.tables import html_of, json_of, junit_of, markdown_of, text_of
+from trau.suite.matrix_page import html_of
+from trau.suite.tables import json_of, junit_of, markdown_of, text_of
 
 OPTIONS = (
     option("--peer", action="append", metavar="NAME", help="a shipped peer; `all` for each"),

@@ -1,12 +1,10 @@
-"""The matrix as a text, as JSON, as JUnit's XML, as one page of HTML, and as the tables of
-docs/CONFORMANCE.md."""
+"""The matrix as a text, as JSON, as JUnit's XML, and as the tables of docs/CONFORMANCE.md."""
 
-import html
 import json
 from typing import Dict, List, Sequence
 from xml.etree import ElementTree
 
-from trau.suite.matrix import Cell, PeerRow, Verdict
+from trau.suite.matrix import Cell, PeerRow, Verdict, count_of
 from trau.suite.rule_list import Level, Rule
 
 MARKS = {
@@ -53,6 +51,7 @@ def json_of(rows: Sequence[PeerRow], rules: Sequence[Rule]) -> str:
             {
                 "name": row.peer.name,
                 "version": row.peer.version,
+                "codec": row.peer.codec or row.peer.name,
                 "cases": len(row.outcomes),
                 "rules": {rule: entry_of(one) for rule, one in row.cells.items()},
             }
@@ -97,11 +96,6 @@ def markdown_table(*lines: Sequence[str]) -> str:
     return head + "|---" * len(lines[0]) + "|\n" + "".join(others)
 
 
-def count_of(row: PeerRow, verdict: Verdict) -> int:
-    """How many rules have this verdict."""
-    return sum(one.verdict is verdict for one in row.cells.values())
-
-
 def markdown_of(rows: Sequence[PeerRow], rules: Sequence[Rule]) -> str:
     """The peers with their counts; the rules that bind each of them; where each is broken first."""
     peers = [
@@ -133,34 +127,3 @@ def markdown_of(rows: Sequence[PeerRow], rules: Sequence[Rule]) -> str:
         markdown_table(("Peer", "Rule", "First case, frame"), *broken),
     )
     return "\n".join(tables)
-
-
-STYLE = """body{font:14px sans-serif}table{border-collapse:collapse}
-td,th{border:1px solid #ccc;padding:2px 6px;text-align:left;vertical-align:top}
-.kept{background:#dfd}.broken{background:#fdd}.other{color:#888}
-thead th{position:sticky;top:0;background:#fff}"""
-
-
-def html_cell(cell: Cell) -> str:
-    """A cell of the page; where a rule is broken first is its text."""
-    shade = {Verdict.KEPT: "kept", Verdict.BROKEN: "broken"}.get(cell.verdict, "other")
-    return f'<td class="{shade}">{html.escape(cell.text())}</td>'
-
-
-def html_of(rows: Sequence[PeerRow], rules: Sequence[Rule]) -> str:
-    """One page without scripts."""
-    peers = [f"<th>{html.escape(f'{row.peer.name} {row.peer.version}')}</th>" for row in rows]
-    lines: List[str] = []
-    for rule in rules:
-        cells = "".join(html_cell(row.cells[rule.identifier]) for row in rows)
-        about = html.escape(f"{rule.says} ({rule.source})")
-        lines.append(
-            f"<tr><th>{rule.identifier}</th><td>{rule.level.value}</td><td>{about}</td>{cells}</tr>"
-        )
-    head = f"<thead><tr><th>Rule</th><th>Level</th><th>It says</th>{''.join(peers)}</tr></thead>"
-    body = "\n".join(lines)
-    return (
-        '<!DOCTYPE html>\n<html lang="en"><meta charset="utf-8"><title>Conformance</title>'
-        f"<style>{STYLE}</style>\n<h1>GSM full rate: peers by rules</h1>\n"
-        f"<table>{head}\n<tbody>\n{body}\n</tbody></table></html>\n"
-    )
