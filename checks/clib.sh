@@ -1,5 +1,5 @@
 #!/bin/sh
-# The C library, built from what is proved: its C and Python tests against recorded answers of libgsm and of Python's audioop; hard signals
+# The C libraries, built from what is proved: their C and Python tests against recorded answers of libgsm and of Python's audioop; hard signals
 # against libgsm built with integers; random calls by both sides against the model; the hosts of clib/examples; and if sox, toast, ffmpeg and
 # GStreamer are installed, what they write for recorded speech on the system's libgsm and on this library. `checks/clib.sh --long` also plays
 # in real time. TRAU_CLIB names a library to use in place of clib/out, which isn't built then.
@@ -63,11 +63,17 @@ done
 cc -O2 -I"$TRAU_CLIB/include" -o test_static "$tests/test_trau_fr.c" "$lib/libtrau_fr.a"
 said "test_trau_fr of libtrau_fr.a" ./test_static "$vectors" "$tests/data"
 if command -v c++ >/dev/null; then
-    echo '#include <trau_fr.h>' >header.cc
-    said "the header as C++" c++ -Wall -Wextra -I"$TRAU_CLIB/include" -c header.cc
+    for name in trau_fr trau_call; do
+        echo "#include <$name.h>" >header.cc
+        said "$name.h as C++" c++ -Wall -Wextra -I"$TRAU_CLIB/include" -c header.cc
+    done
 else
-    echo "skipped the header as C++: g++ isn't installed"
+    echo "skipped the headers as C++: g++ isn't installed"
 fi
+
+# Live calls: the shared library for each kind of processor, and the archive, whose malloc is made to fail.
+cc -O2 -Wall -Wextra -I"$TRAU_CLIB/include" -Wl,--wrap=malloc -o test_trau_call "$tests/test_trau_call.c" "$lib/libtrau_call.a" "$lib/libtrau_fr.a"
+said "test_trau_call of libtrau_call.a" ./test_trau_call
 
 # libgsm's interface: behind the system's header, and without leaks.
 gsm_interface="-std=gnu11 -Wall -Wextra -Werror -I$TRAU_CLIB/include $top/clib/libgsm.c"
@@ -82,6 +88,9 @@ if cc -fsanitize=address,undefined -o nothing nothing.c 2>/dev/null && ./nothing
     # shellcheck disable=SC2086
     cc -g -fsanitize=address,undefined -fno-sanitize-recover=all -o leaks $gsm_interface "$tests/libgsm_says.c" "$lib/libtrau_fr.a"
     said "libgsm_says without leaks" ./leaks
+    cc -g -fsanitize=address,undefined -fno-sanitize-recover=all -Wl,--wrap=malloc -I"$TRAU_CLIB/include" -o call_leaks \
+        "$tests/test_trau_call.c" "$lib/libtrau_call.a" "$lib/libtrau_fr.a"
+    said "test_trau_call without leaks" ./call_leaks
 else
     echo "skipped leaks: the compiler has no address sanitizer that runs here"
 fi
@@ -101,6 +110,7 @@ hosts() {
 
 hosts Header
 hosts Heard
+hosts Call
 hosts Conform
 hosts Ecu
 hosts GStreamer

@@ -14,12 +14,14 @@ esac
 
 unit_tests "$top/suite/tests"
 if [ "${1:-}" = --long ]; then
-    if python3 "$top/suite/tests/test_check.py" --long >"$work/said" 2>&1; then
-        echo "ok check.py: all boxes"
-    else
-        fail "check.py, all boxes:"
-        cat "$work/said"
-    fi
+    for each in test_check test_unsure; do
+        if python3 "$top/suite/tests/$each.py" --long >"$work/said" 2>&1; then
+            echo "ok $each: all of it"
+        else
+            fail "$each, all of it:"
+            cat "$work/said"
+        fi
+    done
 fi
 
 # held NAME: whether a peer keeps all rules that its operations exercise

@@ -127,7 +127,8 @@ class Installed(InFolder):
     def test_the_model_refuses_words(self):
         for words in ([], ["relya", "7"], ["--help", "run"]):
             ended = self.run_command("trau-model", *words)
-            self.assertEqual((ended.returncode, ended.stdout, ended.stderr), (1, "usage\n", ""))
+            self.assertEqual((ended.returncode, ended.stdout), (1, "usage\n"))
+            self.assertRegex(ended.stderr, r"\Atrau: .*; trau help lists them\n\Z")
 
     def test_a_source_distribution(self):
         words = "import sys, setuptools.build_meta as made; made.build_sdist(sys.argv[1])"

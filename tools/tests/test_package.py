@@ -104,10 +104,7 @@ class Modules(unittest.TestCase):
             for path in TOOLS.iterdir()
             if re.fullmatch(trau_package.FOLDERS["tools"], path.name)
         }
-        self.assertLessEqual(
-            {"report.py", "orders.py", "help.txt", "pages.txt", "grammar.txt", "bad_order.awk"},
-            packed,
-        )
+        self.assertLessEqual({"report.py", "orders.py", "help.txt", "pages.txt"}, packed)
 
 
 @unittest.skipUnless(HAS_PROGRAM, "TRAU_PROGRAM names no built program")
@@ -180,7 +177,7 @@ class Package(InFolder):
         )
         for name in (
             *wanted,
-            "tools/grammar.txt",
+            "tools/pages.txt",
             "README.md",
             "docs/OPERATORS.md",
             "docs/CHANGELOG.md",

@@ -30,6 +30,7 @@ MACHINES = {"x86_64": "amd64", "aarch64": "arm64"}
 # Where the system's libraries lie, and where the tarball has those that clib/build made.
 LIBRARIES = f"usr/lib/{os.uname().machine}-linux-gnu"
 BUILT = "clib/out/"
+LOOP = f"{BUILT}lib/trau-gateway/"  # of the gateway, and so of the program's package
 
 # How the first lines of programs begin in a tarball and in Debian's package. A packed program keeps
 # nothing compiled: it would lie among the package's files, and stay when they are removed.
@@ -209,9 +210,11 @@ def program(files: Dict[str, bytes]) -> Package:
     found = dict(
         place(name, content)
         for name, content in files.items()
-        if name not in others and not name.startswith(BUILT)
+        if name not in others and (name.startswith(LOOP) or not name.startswith(BUILT))
     )
-    programs = sorted(path for path, content in found.items() if content.startswith(ELF))
+    programs = sorted(
+        path for path, content in found.items() if content.startswith(ELF) and ".so" not in path
+    )
     found["usr/share/lintian/overrides/trau"] = "".join(map(OVERRIDE.format, programs)).encode()
     control = {"prerm": PRERM}
     return Package("trau", PROGRAM, PROGRAM_DESCRIPTION, found, links(found), control)
@@ -227,7 +230,8 @@ def symbols(header: str, version: str) -> str:
 def shared_library(files: Dict[str, bytes], version: str) -> Package:
     """The package of the shared library, and of libgsm's interface beside it."""
     shared = re.compile(r"lib/(.*\.so\.1)")
-    matches = ((shared.fullmatch(name), content) for name, content in files.items())
+    of_others = (each for each in files.items() if not f"{BUILT}{each[0]}".startswith(LOOP))
+    matches = ((shared.fullmatch(name), content) for name, content in of_others)
     found = {f"{LIBRARIES}/{match[1]}": content for match, content in matches if match}
     header = files["include/trau_fr.h"].decode()
     control = {

@@ -45,6 +45,7 @@ LIBRARY_FILES = (
         f"lib/{V3}/libtrau_fr.so.1",
     ),
     *("lib/trau-gsm/libgsm.so.1", f"lib/trau-gsm/{V3}/libgsm.so.1", "lib/pkgconfig/trau_fr.pc"),
+    *("lib/trau-gateway/libtrau_pump.so.1", f"lib/trau-gateway/{V3}/libtrau_pump.so.1"),
 )
 
 SCRIPTS = ("trau", "demo")
@@ -61,7 +62,7 @@ sys.exit({name}())
 # What is packed of folders: the files that git knows there and that have such names. Of tools/ it
 # isn't what proves, builds, packs and needs suite/; tests/data has recordings that commands in documents take.
 FOLDERS = {
-    "tools": r"(?!build|check|trau_)\w+\.(py|txt|awk)",
+    "tools": r"(?!build|check|trau_)\w+\.(py|txt)",
     "python/trau": r".*",
     "gateway": r"(?!tests/).*",
     "examples": r"README\.md|7\.up|farm/(\d+\.(up|pcm)|orders\.txt|wanted/[\w.]+)",

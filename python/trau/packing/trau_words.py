@@ -1,6 +1,5 @@
 """The commands, options and statuses of trau, in one place, and what is made of them: the help of the script `trau`
-(help.txt, and pages.txt of each command), by what it finds a wrong word (grammar.txt), the man page and the completion of words
-in bash.
+(help.txt, and pages.txt of each command), the man page and the completion of words in bash.
 
 The documents say the same at greater length; the tests of the tools hold both to each other.
 """
@@ -350,22 +349,6 @@ def pages_text() -> str:
     return "".join(f"== {command.name}\n{page(command)}" for command in COMMANDS)
 
 
-def grammar_text() -> str:
-    """The values of each command and their ranges, as the script `trau` reads them to say which
-    word is wrong."""
-    lines = []
-    for command in COMMANDS:
-        lines += [
-            f"{command.name} {option.name} {option.values.least} {option.values.most}"
-            for option in options_of(command)
-        ]
-        if CALL in command.words.split():
-            lines += [f"{command.name} {CALL} 1 {command.last_call}"]
-        if command.words == "C W":
-            lines += [f"{command.name} W 0 316"]
-    return "\n".join(lines) + "\n"
-
-
 # The man page
 
 
@@ -488,7 +471,6 @@ def main(words: Sequence[str]) -> int:
     made = {
         "help": help_text,
         "pages": pages_text,
-        "grammar": grammar_text,
         "man": lambda: man_page("trau", ""),
         "completion": completion,
     }

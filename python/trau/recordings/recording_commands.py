@@ -171,10 +171,8 @@ def unpack(words: argparse.Namespace) -> int:
     return 0
 
 
-RECORDING: List[Option] = [
-    option(
-        "given", type=Path, metavar="FILE", help="the recording; one that gzip packed ends with .gz"
-    ),
+# How the recording of a line is read.
+READING: List[Option] = [
     option(
         "--of",
         type=number_within(1, MOST_SLOTS),
@@ -192,6 +190,12 @@ RECORDING: List[Option] = [
             "it has the most significant one first; without either word the order is found",
         ),
     ),
+]
+RECORDING: List[Option] = [
+    option(
+        "given", type=Path, metavar="FILE", help="the recording; one that gzip packed ends with .gz"
+    ),
+    *READING,
     option(
         "--begins",
         type=utc_word,
