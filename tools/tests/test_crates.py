@@ -1,5 +1,5 @@
-"""The crates: their heads name their layers, comments end by one column, laws are cited by their whole paths, and no folder of
-proofs is long."""
+"""The crates: their heads name their layers and definitions, comments end by one column, laws have readers and are cited by their
+whole paths, and no folder of proofs is long."""
 
 import re
 import unittest
@@ -52,6 +52,14 @@ class Crates(unittest.TestCase):
             )
             self.assertEqual(named, [layer_of[crate.name]], crate.name)
 
+    def test_heads_name_their_definitions(self) -> None:
+        for crate in CRATES:
+            roots = [crate / "src" / name for name in ("lib.rt", "main.rt")]
+            text = next(root for root in roots if root.exists()).read_text(encoding="utf-8")
+            head = "".join(re.findall(r"^//!.*\n", text, re.MULTILINE))
+            files = {path.name for path in (crate / "specs").glob("*.antt")} - {"Lib.antt"}
+            self.assertEqual({name for name in files if name not in head}, set(), crate.name)
+
     def test_comments_end_by_one_column(self) -> None:
         for crate in CRATES:
             for source in sources(crate):
@@ -81,6 +89,21 @@ class Crates(unittest.TestCase):
                 called = set(re.findall(r"^\s*(?:\w+\.)*(\w+)\(.*\);$", text, re.MULTILINE))
                 own = set(re.findall(r"\bfn (\w+)", text))
                 self.assertEqual((called - own) & laws, set(), source.relative_to(ROOT).as_posix())
+
+    def test_laws_have_readers(self) -> None:
+        code = [
+            path.read_text(encoding="utf-8")
+            for crate in CRATES
+            for path in (crate / "src").rglob("*.rt")
+        ]
+        called = {name for text in code for name in re.findall(r"::laws::(\w+)\(", text)}
+        page = (ROOT / "docs" / "PROVED.md").read_text(encoding="utf-8")
+        named = set(re.findall(r"`(\w+)`", page))
+        for crate in CRATES:
+            laws = crate / "src" / "laws.rt"
+            if laws.exists():
+                own = re.findall(r"^pub fn (\w+)", laws.read_text(encoding="utf-8"), re.MULTILINE)
+                self.assertEqual(set(own) - called - named, set(), crate.name)
 
     def test_folders_of_proofs_are_short(self) -> None:
         for crate in CRATES:

@@ -24,9 +24,8 @@ use Rattle.call_spec.proofs.Bridges.Loads.{ArePlaced, placed}
 use Rattle.call_spec.proofs.Sending.{zip-more, frame_after, adds-frame}
 use Rattle.call_spec.proofs.DownLine.{frame-placed, down-whole}
 use Rattle.call_spec.proofs.Whole.{history-whole, call-whole}
-use Rattle.call_heard.specs.Items.{PeriodsHandFrames}
 use Rattle.call_heard.specs.Heard.{found_as, found_among, found_of, SpansHandFrames}
-use Rattle.call_heard.proofs.Legs.{leg-found}
+use Rattle.call_heard.proofs.Legs.{PeriodsHandFrames, leg-found}
 use Rattle.call_heard.proofs.Lines.{line-again}
 
 -- ---- the frames of a history, by number and as its leg makes them

@@ -10,7 +10,6 @@ use Rattle.trau_frame.specs.declared.frames.Kind.TheVariants as kinds
 use Rattle.trau_frame.specs.declared.frames.Class.{Class}
 use Rattle.trau_frame.specs.declared.frames.Class.TheVariants as classes
 use Rattle.trau_params.specs.Fields.{Fields, fields_in}
-use Rattle.trau_params.specs.Bits260.{bits260}
 use Rattle.trau_params.specs.Silence.{silent_fields}
 use Rattle.rx_subst.specs.Lost.{silent_from_lost, muted_of, lost_of}
 use Rattle.rx_noise.specs.Noise.{silent_from_fall, noise_pulses, all_noise_pulses, noise_at, noise_of}
@@ -21,8 +20,7 @@ use Rattle.rx_handler.specs.Effective.{is_anchor}
 use Rattle.rx_handler.specs.Past.{Anchor, NoAnchor, AtGood, AtSid, anchor_after, anchor_of, periods_of_fall, approached_of, start_from, approach_start_of, origin_from}
 use Rattle.rx_handler.specs.Past.{effective_of}
 use Rattle.call_leg.specs.Uplink.{Sighting, Nothing, Missed, Framed, heard_as, handed_fields}
-use Rattle.call_leg.specs.Periods.{CallPeriod, heard_of}
-use Rattle.call_heard.proofs.Shapes.{HasShape, length-bits260}
+use Rattle.call_heard.proofs.Shapes.{HasShape}
 
 -- ---- fields
 
@@ -112,10 +110,6 @@ shaped-sighting Nothing = tt
 shaped-sighting Missed = tt
 shaped-sighting (Framed w) = shaped-frame w.kind w.class w.taf w.d
 
-shaped-call : (ts : List CallPeriod) → AreShaped (heard_of ts)
-shaped-call [] = tt
-shaped-call (t ∷ past) = (shaped-sighting _, shaped-call past)
-
 -- ---- what effective frames are made from
 
 abbrev IsShapedAnchor : Anchor → Type 0
@@ -176,7 +170,3 @@ shape-effective number [] shaped = shape-silent
 shape-effective number (y ∷ past) shaped =
     shape-handed _ _
     (shaped-origin (anchor_of (y ∷ past)) (λ q. approach_start_of (y ∷ past) q) (shaped-anchor (y ∷ past) shaped) (λ r h. shape-old (y ∷ past) shaped r h))
-
--- **So what is handed over are 260 bits.**
-pub handed-long : (number : ℕ) (ts : List CallPeriod) → length (bits260 (handed_fields (effective_of number (heard_of ts)))) ≡ 260
-handed-long number ts = length-bits260 _ (shape-effective number (heard_of ts) (shaped-call ts))

@@ -16,8 +16,11 @@ use Rattle.call_leg.specs.Periods.{CallPeriod, quiet_now, handed_in}
 use Rattle.call_leg.specs.Down.{CallFrame, down_line, down_period, down_periods, frames_of, coded_stretch, coded_after, coded_frames, speech, frame_now}
 use Rattle.call_leg.proofs.Downlink.Enter.{length-down_periods}
 use Rattle.call_leg.proofs.Lines.{line-is_made}
-use Rattle.call_heard.specs.Items.{PeriodsHandFrames}
 use Rattle.call_heard.proofs.Shapes.{length-bits260, shape-encoding, shape-sent}
+
+-- what is handed over in each period has 260 bits
+abbrev pub PeriodsHandFrames : List CallPeriod → Type 0
+PeriodsHandFrames ts = All (λ t. IfSome t.handed (λ d. length d ≡ 260)) ts
 
 -- what is handed over in a period of a bridge has 260 bits
 long : (o : Option (List ℕ)) → IfSome o (λ d. length d ≡ 260) → is_some o ≡ true → length (unwrap_or o []) ≡ 260

@@ -5,33 +5,14 @@ ghost use Rattle.std.specs.List.{concat};
 ghost use Rattle.trau_bits.specs.Bits.{octets_of};
 ghost use Rattle.trau_orders.specs.Lists.{AreOrders};
 ghost use Rattle.switchboard.specs.Calls.{opened_at};
-ghost use Rattle.trau_params.specs.Bits260.{bits260};
-ghost use Rattle.ccu_end.specs.Found.{Found, FoundFrame, all_within, as_made, places_from};
+ghost use Rattle.ccu_end.specs.Found.{Found, FoundFrame, all_within, places_from};
 ghost use Rattle.ccu_end.specs.Heard.{AreHeard, all_of, line_bits};
-ghost use Rattle.call_leg.specs.Who.{Who};
-ghost use Rattle.call_leg.specs.Uplink.{handed_fields};
-ghost use Rattle.call_leg.specs.Periods.{CallPeriod, effective_now};
-ghost use Rattle.call_leg.specs.Down.{down_line, frame_now, frames_of};
 ghost use Rattle.call_spec.specs.Call.{Call, periods};
 ghost use Rattle.call_spec.specs.Down.{down, down_frames, frames_of_call};
 ghost use Rattle.call_spec.specs.Whole.{IsWhole};
 ghost use Rattle.run_spec.specs.Run.{Run, done_in};
 ghost use Rattle.run_calls_spec.specs.Whole.{whole_call};
 ghost use Rattle.call_heard.specs.Heard.{SpansHandFrames, found_of};
-ghost use Rattle.call_heard.specs.Items.{PeriodsHandFrames};
-
-/// What a call hands over in a period has 260 bits, whatever its uplink: those of its effective frame, or of silence.
-pub fn handed_frames_have_260_bits()
-    ensures { (number : ℕ) (ts : List CallPeriod) → length (bits260 (handed_fields (effective_now number ts))) ≡ 260 }
-{}
-
-/// On the Down line of any history of a call in which each item handed over has 260 bits, exactly the made frames are
-/// found, each at its place with what was sent in it, if its first 316 bits are on the line. A history has the newest
-/// period first.
-pub fn frames_of_a_leg_are_found()
-    ensures { (who : Who) (ts : List CallPeriod) → PeriodsHandFrames ts →
-        Found (down_line who ts) (all_within (320 * length ts) (as_made (frame_now who) (frames_of ts))) }
-{}
 
 /// On the whole Down line of a call whose items have 260 bits each, exactly the frames that the call makes are found.
 pub fn frames_of_a_call_are_found()

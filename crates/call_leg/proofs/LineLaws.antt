@@ -1,6 +1,6 @@
 -- For crates above: a period has 320 bits of Down and 160 octets of Out, and so have lines of several periods; Down is
 -- made of bits if all handed frames are (`HandBits`).
-use Rattle.std.proofs.Common.{◌≡◌, subst, ◌∙◌, ℕ, FitsSigned, w16, ◌*◌, ◌<◌, ℤ, pos, negsuc, true, if◌then◌else◌, nat_le, Option, Some, None, IfSome, unwrap_or}
+use Rattle.std.proofs.Common.{◌≡◌, ◌∙◌, ℕ, ◌*◌, ◌<◌, ℤ, pos, negsuc, true, if◌then◌else◌, nat_le, Option, Some, None, IfSome, unwrap_or}
 use Rattle.std.proofs.Common.{refl, get_or, All, List, [], ◌∷◌, length, drop, replicate, arith, length-take, length-drop}
 use Rattle.std.specs.Prelude.{◌==◌}
 use Rattle.std.specs.List.{range_with_len}
@@ -8,13 +8,10 @@ use Rattle.std.proofs.lemmas.Bool.{cond_both}
 use Rattle.std.proofs.lemmas.List.{length-append, length-replicate, length-map}
 use Rattle.std.proofs.lemmas.List.Elements.{All-nil, All-cons, All-head, All-tail, All-replicate, All-append, All-map, All-take, All-drop}
 use Rattle.trau_alaw.specs.declared.Law.{Law}
-use Rattle.trau_alaw.specs.declared.Law.TheVariants.{A, Mu}
+use Rattle.trau_alaw.specs.declared.Law.TheVariants.{A}
 use Rattle.trau_alaw.specs.Laws.{companding, idle_of}
 use Rattle.trau_alaw.specs.Period.{compressed}
-use Rattle.trau_alaw.specs.Companding.{PartsWords, octet_of}
-use Rattle.trau_alaw.proofs.Octets as a
-use Rattle.trau_alaw.proofs.MuOctets as mu
-use Rattle.trau_alaw.proofs.Octets.{octet_of-only}
+use Rattle.trau_alaw.specs.Companding.{octet_of}
 use Rattle.trau_bits.specs.Bits.{AreBits}
 use Rattle.trau_params.specs.Fields.{Fields}
 use Rattle.trau_params.proofs.AreBits.{AreBits-bits260}
@@ -24,7 +21,7 @@ use Rattle.trau_frame.specs.DownFrame.{HasBits, sp_of, down_control_bit, down_co
 use Rattle.trau_frame.proofs.Again.{length-down_bits}
 use Rattle.trau_frame.proofs.WrittenRows.{frame_bits-below}
 use Rattle.fr_decoder.specs.Decoded.{samples_of}
-use Rattle.fr_decoder.proofs.Frames.{length-samples_of, samples-fit}
+use Rattle.fr_decoder.proofs.Frames.{length-samples_of}
 use Rattle.tx_dtx.specs.Sent.{sent_of}
 use Rattle.down_framer.specs.Made.{next_start, next_frame, grown, frame_on_line}
 use Rattle.down_framer.proofs.Store.{made-far}
@@ -61,30 +58,6 @@ pub length-down_line : (who : Who) (ts : List CallPeriod) → length (down_line 
 length-down_line who [] = refl
 length-down_line who (t ∷ past) =
     omega (arith, length-append (down_line who past) (down_now who (t ∷ past)), length-down_line who past, length-down_now who t past)
-
--- ---- octets
-
--- an idle octet is below 256
-idle-is : (law : Law) → idle_of law < 256
-idle-is A = omega arith
-idle-is Mu = omega arith
-
--- the intervals of each law part the samples
-parts : (law : Law) → PartsWords (companding law)
-parts A = a.parts
-parts Mu = mu.parts
-
--- each octet of a law is below 256
-octet-is : (law : Law) (x : ℤ) → FitsSigned w16 x → octet_of (companding law) x < 256
-octet-is law x f = let p = parts law x f in subst (λ n. n < 256) (octet_of-only (companding law) x p.0 p.1) p.1.is_octet
-
-decoded-octets : (law : Law) (fs : List Fields) → All (λ n. n < 256) (decoded_octets law fs)
-unfolding compressed
-decoded-octets law [] = All-replicate (λ n. n < 256) 160 (idle_of law) (idle-is law)
-decoded-octets law (f ∷ past) = All-map (λ n. n < 256) (octet_of (companding law)) (samples_of f past) (λ k d l. octet-is law _ (samples-fit f past k d l))
-
-pub out_of-octets : (who : Who) (ts : List CallPeriod) → All (λ n. n < 256) (out_of who ts)
-out_of-octets who ts = decoded-octets who.law (plain_stretch who.number (bridges_begun ts) ts)
 
 -- ---- bits
 

@@ -1,12 +1,12 @@
 -- For crates above: a new leg stands for its call (`new-stands`), and a leg still does after each order between
 -- periods.
-use Rattle.std.proofs.Common.{◌≡◌, refl, sym, ap, ◌∙◌, subst, ℕ, ℤ, true, None, List, [], length}
+use Rattle.std.proofs.Common.{◌≡◌, refl, sym, ◌∙◌, subst, ℕ, ℤ, true, None, List, [], length}
 use Rattle.std.proofs.lemmas.Bool.{true≢false}
 use Rattle.std.proofs.lemmas.List.Elements.{All-nil}
 use Rattle.trau_orders.specs.declared.order.DtxMode.{DtxMode}
 use Rattle.frame_sync.specs.Periods.{mode_after}
 use Rattle.frame_sync.specs.Stands as search
-use Rattle.frame_sync.specs.Memory.{SyncMemory, home_memory as search_home}
+use Rattle.frame_sync.specs.Memory.{home_memory as search_home}
 use Rattle.rx_handler.specs.Past.{anchor_of, draw_count}
 use Rattle.rx_handler.specs.Stands as rx
 use Rattle.rx_handler.specs.Memory.{home_memory as rx_home}
@@ -20,12 +20,11 @@ use Rattle.call_leg.specs.Who.{Who}
 use Rattle.call_leg.specs.Periods.{CallPeriod}
 use Rattle.call_leg.specs.Settings.{Settings, new_settings, with_level, with_mode, with_bridge, without_bridge}
 use Rattle.call_leg.specs.Down.{down_periods, frames_of}
-use Rattle.call_leg.specs.Memory.{home_down, LegMemory, home_memory, periods_of_leg}
+use Rattle.call_leg.specs.Memory.{home_down, LegMemory, home_memory}
 use Rattle.call_leg.specs.Places.{Between}
 use Rattle.call_leg.specs.Stands.{Stands}
 use Rattle.call_leg.specs.Step.{with_down, set_level, set_mode, bridge_begun, begin_bridge, bridge_over}
 use Rattle.call_leg.specs.Halves.{up_of, up_unbridged}
-use Rattle.call_leg.proofs.Heard.{length-ups_of}
 use Rattle.call_leg.proofs.Downlink.Numbered.{next-ahead, all-come, length-made}
 use Rattle.call_leg.proofs.Downlink.Bridges.{plain-new, begins}
 use Rattle.call_leg.proofs.Downlink.Laws.{home_tx-stands}
@@ -97,10 +96,6 @@ pub end-stands : (who : Who) (ts : List CallPeriod) (now : Settings) (m : LegMem
 end-stands who ts now m b h =
     join-stands who ts (without_bridge now) (up_unbridged (up_of m)) (bridge_over m.down) (up_off-stands who ts now (up_of m) h.up)
     (down_off-stands who ts now m.down (h.down.bridged ∙ b) h.down)
-
--- the search counts the periods
-pub periods-counted : (who : Who) (ts : List CallPeriod) (now : Settings) (m : LegMemory) → Stands who ts now m → periods_of_leg m ≡ length ts
-periods-counted who ts now m h = ap (λ (s : SyncMemory). s.periods) h.search.after ∙ length-ups_of ts
 
 -- before the first period
 pub home-between : (who : Who) → Between who [] new_settings (home_down who.law)

@@ -131,7 +131,7 @@ impl DownLeg {
         self.half(pcm, down);
     }
 
-    /// Starts a bridge with the next period. That no handed frame waits is a premise of the leg's law (`orders_stand`).
+    /// Starts a bridge with the next period. That no handed frame waits is a premise of `history` of `Leg::bridge_on`.
     pub fn bridge_on(&mut self)
         ensures { self.new ≡ bridge_begun self.old }
     {

@@ -18,14 +18,14 @@ use Rattle.call_leg.proofs.NotedRuns.{run-downs}
 use Rattle.call_pair.specs.Memory.{IoMemory, HalfMemory}
 use Rattle.call_pair.specs.Periods.{pcm_at, buffer_with}
 use Rattle.call_pair.specs.History.{Start, who_of, settings_past, Begins}
-use Rattle.call_pair.specs.Phases.{CallMemory, down_before, item_if, effective_in, first_phase, second_phase, half_run}
-use Rattle.call_pair.specs.Told.{Speaks, HalfRuns, history_of, ups_in, pcms_in}
+use Rattle.call_pair.specs.Phases.{CallMemory, down_before, item_if, effective_in, first_phase}
+use Rattle.call_pair.specs.Told.{HalfRuns, history_of, ups_in, pcms_in}
 use Rattle.call_pair.proofs.Lengths.{length-down_octets}
 use Rattle.call_pair.proofs.Octets.{written-seam}
 use Rattle.call_pair.proofs.Places.{length-pcm_at, not_below}
 use Rattle.call_pair.proofs.Runs.{set-past}
 use Rattle.call_pair.proofs.Sequences.{told, outs, made_from, downs, lines}
-use Rattle.call_pair.proofs.Phased.{notes, length-notes, note-is, frame_at, second_after, second-finished, run-is}
+use Rattle.call_pair.proofs.Phased.{half_run, notes, length-notes, note-is, frame_at, run-is}
 use Rattle.call_pair.proofs.BridgeEnd.{set_for, set-flag, set-next, set-period, ready}
 use Rattle.call_pair.proofs.UplinkRuns.{outs_told, note-told, given-is, none-done, up-run, outs-line, first-is}
 
@@ -145,10 +145,6 @@ module _ (s : Start) (h : HalfMemory) (m : ℕ) (b : Begins s h) where
     own-are : AreNotes (history_of s) (ups_in s) (pcms_in s) frames s.io.given (notes m h h.io.given)
     own-are k none l = note-is m h h.io.given k none (omega (arith, l, (given-is s h m b))) ∙ own-notes k l
 
-    other-notes : (heard : ℕ → List ℕ) → AreNotes (history_of s) heard (pcms_in s) frames s.io.given (notes m h h.io.given) →
-        (k : ℕ) → k < s.io.given → (told m h k).0 ≡ note_in s.io.call (periods_run (history_of s) heard (pcms_in s) given_to k) (heard k)
-    other-notes heard a k l = sym (note-is m h h.io.given k (told m h k).0 (omega (arith, l, (given-is s h m b)))) ∙ a k (told m h k).0 l
-
     down-run : DownRun (history_of s) (notes m h h.io.given) frames (pcms_in s) s.io.given (downs_said m (frame_at frames) h s.io.given)
     down-run = record {
       all = length-notes m h h.io.given ∙ given-is s h m b;
@@ -158,26 +154,6 @@ module _ (s : Start) (h : HalfMemory) (m : ℕ) (b : Begins s h) where
 
     lines-line : lines m (frame_at frames) h h.io.given ≡ downs_said m (frame_at frames) h s.io.given ++ drop (40 * s.io.given) s.io.down
     lines-line = ap (λ (i : ℕ). lines m (frame_at frames) h i) (given-is s h m b) ∙ lines-said (ups_in s) own-notes s.io.given (omega arith)
-
-    second-is : second_phase m frames h ≡ second_after m frames h h.io.given
-    second-is = second-finished m frames h (none-done s h m b)
-
-    pub speaks : Speaks s frames (second_phase m frames h)
-    speaks = record {
-      octets = downs_said m (frame_at frames) h s.io.given;
-      run = subst (λ (j : CallMemory). DownRun (history_of s) j.notes frames (pcms_in s) s.io.given (downs_said m (frame_at frames) h s.io.given))
-          (sym second-is) down-run;
-      down = ap (λ (j : CallMemory). j.io.down) second-is ∙ lines-line;
-      stands = λ heard a.
-          let own = subst (λ (j : CallMemory). AreNotes (history_of s) heard (pcms_in s) frames s.io.given j.notes) second-is a in
-          let w = downs-stand heard (other-notes heard own) s.io.given (omega arith) in
-          subst (λ (j : CallMemory). Between (who_of s) (periods_run (history_of s) heard (pcms_in s) given_to s.io.given)
-          (settings_past s.io.given (length frames) s.now) j.down) (sym second-is)
-          (subst (λ (i : ℕ). Between (who_of s) (periods_run (history_of s) heard (pcms_in s) given_to s.io.given)
-          (settings_past s.io.given (length frames) s.now) (downs m (frame_at frames) h i)) (sym (given-is s h m b))
-          (subst (λ (i : ℕ). Between (who_of s) (periods_run (history_of s) heard (pcms_in s) given_to s.io.given) (settings_past s.io.given i s.now)
-          (downs m (frame_at frames) h s.io.given)) (sym long) w));
-    }
 
     pub half-runs : HalfRuns s m (first_phase m h).notes frames (half_run m frames h)
     half-runs = record {

@@ -15,11 +15,25 @@ use Rattle.call_pair.specs.Periods.{pcm_at, with_period, has_period}
 use Rattle.call_pair.specs.Turn.{effective, half_place_if}
 use Rattle.call_pair.specs.Jobs.{job_left, after_job_places, finished_job}
 use Rattle.call_pair.specs.Phases.{CallMemory, down_before, item_if, effective_in, call_place, after_call_places, periods_left, job_at_phase_end, turn_down}
-use Rattle.call_pair.specs.Phases.{job_at_start, with_partner, second_phase, half_in, frames_in, first_effective, half_run}
+use Rattle.call_pair.specs.Phases.{job_at_start, with_partner, half_in, frames_in, first_phase}
 use Rattle.call_pair.specs.declared.call_job.Phase.TheVariants.{First, Second}
 use Rattle.call_pair.proofs.Places.{is_below}
 use Rattle.call_pair.proofs.Turns.{call_place_is}
 use Rattle.call_pair.proofs.Sequences.{ups, told, outs, downs, lines, io_from, half_after, half_after-zero, effective-at, step}
+
+-- ---- a half after both phases
+
+-- a half at the end of its second phase, with these frames of its partner
+abbrev pub second_phase : ℕ → List EffectiveFields → HalfMemory → CallMemory
+second_phase m frames h = job_at_phase_end (turn_down (with_partner frames (first_phase m h)))
+
+-- the effective frames of a half's first m places
+abbrev pub first_effective : ℕ → HalfMemory → List EffectiveFields
+first_effective m h = take m (frames_in (first_phase m h).notes)
+
+-- a half after both phases, with these frames of its partner
+abbrev pub half_run : ℕ → List EffectiveFields → HalfMemory → HalfMemory
+half_run m frames h = half_in (second_phase m frames h)
 
 -- ---- notes
 

@@ -3,8 +3,8 @@
 use Rattle.std.proofs.Common.{◌≡◌, sym, ap, ◌∙◌, ℕ, min, [], take}
 use Rattle.call_pair.specs.Memory.{HalfMemory, One, Two}
 use Rattle.call_pair.specs.Jobs.{finished_job}
-use Rattle.call_pair.specs.Phases.{CallMemory, job_at_phase_end, turn_down, with_partner, half_in, first_phase, first_effective, frames_in, half_run, round_alone, round_beside}
-use Rattle.call_pair.proofs.Phased.{first_after, first-finished, one-phased, two-phased}
+use Rattle.call_pair.specs.Phases.{CallMemory, job_at_phase_end, turn_down, with_partner, half_in, first_phase, frames_in, round_alone, round_beside}
+use Rattle.call_pair.proofs.Phased.{first_effective, half_run, first_after, first-finished, one-phased, two-phased}
 
 alone : (h : HalfMemory) → h.io.done ≡ 0 → half_run 0 [] h ≡ half_in (round_alone h)
 alone h e =

@@ -1,37 +1,10 @@
 -- What one turn keeps: a turn processes the next place, if there is one.
-use Rattle.std.proofs.Common.{◌≡◌, ℕ, zero, suc, ◌+◌, ◌-◌, ◌<◌, min, ltb, Bool, true, false, if◌then◌else◌, refl, ap, ◌∙◌, arith}
-use Rattle.std.specs.Prelude.{◌==◌, ◌||◌}
+use Rattle.std.proofs.Common.{◌≡◌, ℕ, zero, suc, ◌+◌, ◌-◌, ◌<◌, ltb, Bool, true, false, if◌then◌else◌, refl, ap, ◌∙◌, arith}
 use Rattle.std.proofs.lemmas.Bool.Decides.{nat_tests}
-use Rattle.rx_handler.specs.Origin.{EffectiveFields}
-use Rattle.call_pair.specs.Memory.{HalfMemory, Job, One, Two}
 use Rattle.call_pair.specs.Periods.{has_period}
-use Rattle.call_pair.specs.Turn.{effective, half_place_if, job_place}
-use Rattle.call_pair.specs.Jobs.{after_job_places, has_call}
 use Rattle.call_pair.specs.Phases.{CallMemory, phase_place, call_place, after_call_places, periods_left, job_at_phase_end}
 use Rattle.call_pair.specs.declared.call_job.Phase.{Phase}
 use Rattle.call_pair.specs.declared.call_job.Phase.TheVariants.{First, Second}
-
--- ---- the calls of a job
-
--- A turn keeps the call of a half.
-half_call : (b : Bool) (m : ℕ) (e : EffectiveFields) (h : HalfMemory) → (half_place_if b m e h).io.call ≡ h.io.call
-half_call true m e h = refl
-half_call false m e h = refl
-
--- A turn keeps the calls of a job.
-job_place_keeps : (job : Job) (call : ℕ) → has_call (job_place job) call ≡ has_call job call
-job_place_keeps (One h) call = ap (λ n. n == call) (half_call (has_period h.io) 0 _ h)
-job_place_keeps (Two a b) call =
-    let m = min a.io.given b.io.given in
-    let g = half_place_if (has_period b.io) m (effective m a) b in
-    ap (λ n. n == call || g.io.call == call) (half_call (has_period a.io) m (effective m b) a) ∙ ap (λ n. a.io.call == call || n == call)
-    (half_call (has_period b.io) m (effective m a) b)
-
--- Any number of turns keeps the calls of a job.
-pub job_places_keep : (n : ℕ) (job : Job) (call : ℕ) →
-    has_call (after_job_places n job) call ≡ has_call job call
-job_places_keep zero job call = refl
-job_places_keep (suc n) job call = job_places_keep n (job_place job) call ∙ job_place_keeps job call
 
 -- ---- the job of a call
 

@@ -11,8 +11,8 @@ use Rattle.call_leg.proofs.LineLaws.{length-out_of}
 use Rattle.call_pair.specs.Memory.{IoMemory, HalfMemory}
 use Rattle.call_pair.specs.Periods.{up_at, buffer_with}
 use Rattle.call_pair.specs.History.{Start, who_of, settings_past, Begins}
-use Rattle.call_pair.specs.Phases.{CallMemory, up_before, first_phase}
-use Rattle.call_pair.specs.Told.{Hears, history_of, ups_in, pcms_in}
+use Rattle.call_pair.specs.Phases.{up_before, first_phase}
+use Rattle.call_pair.specs.Told.{history_of, ups_in, pcms_in}
 use Rattle.call_pair.proofs.Octets.{written-seam}
 use Rattle.call_pair.proofs.Places.{length-up_at, not_below}
 use Rattle.call_pair.proofs.Runs.{set-past}
@@ -126,14 +126,3 @@ module _ (s : Start) (h : HalfMemory) (m : ℕ) (b : Begins s h) where
 
   pub first-is : first_phase m h ≡ first_after m h h.io.given
   first-is = first-finished m h none-done
-
-  pub hears : Hears s m (first_phase m h)
-  hears = record {
-    octets = outs_told m h s.io.given;
-    run = subst (λ (j : CallMemory). UpRun (history_of s) (ups_in s) m s.io.given j.notes (outs_told m h s.io.given)) (sym first-is) up-run;
-    out = ap (λ (j : CallMemory). j.io.out) first-is ∙ outs-line;
-    up = λ pcms handed e.
-        subst (λ (j : CallMemory). UpStands (who_of s) (seen pcms handed e s.io.given) (settings_past s.io.given m s.now) j.up) (sym first-is)
-        (subst (λ (n : ℕ). UpStands (who_of s) (seen pcms handed e s.io.given) (settings_past s.io.given m s.now) (ups m h n)) (sym given-is)
-        (ups-stand pcms handed e s.io.given (omega arith)));
-  }

@@ -1,5 +1,5 @@
 -- A job from its start to its end.
-use Rattle.std.specs.Prelude.{ℕ, zero, suc, max, Bool, ◌==◌, ◌||◌, if◌then◌else◌}
+use Rattle.std.specs.Prelude.{ℕ, zero, suc, max, ◌==◌, if◌then◌else◌}
 use Rattle.call_pair.specs.Memory.{HalfMemory, places_left, Job, One, Two}
 use Rattle.call_pair.specs.Turn.{job_place}
 
@@ -18,11 +18,6 @@ abbrev pub finished_job : Job → Job
 finished_job job = after_job_places (job_left job) job
 
 -- ---- its calls
-
--- whether this call is one of the job's
-abbrev pub has_call : Job → ℕ → Bool
-has_call (One h) call = h.io.call == call
-has_call (Two a b) call = a.io.call == call || b.io.call == call
 
 -- the half of this call, which is one of the job's
 abbrev pub half_of : Job → ℕ → HalfMemory

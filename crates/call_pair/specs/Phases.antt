@@ -145,21 +145,9 @@ frames_in notes = map (λ (n : Note). n.eff) notes
 abbrev pub hear_from : CallMemory → CallMemory → CallMemory
 hear_from p j = turn_down (with_partner (take j.bridge_end (frames_in p.notes)) j)
 
--- a half at the end of its first phase, where a bridge that it has ends at place m, and at the end of the second, with
--- these frames of its partner
+-- a half at the end of its first phase, where a bridge that it has ends at place m
 abbrev pub first_phase : ℕ → HalfMemory → CallMemory
 first_phase m h = job_at_phase_end (job_at_start m h)
-
-abbrev pub second_phase : ℕ → List EffectiveFields → HalfMemory → CallMemory
-second_phase m frames h = job_at_phase_end (turn_down (with_partner frames (first_phase m h)))
-
--- the effective frames of a half's first m places
-abbrev pub first_effective : ℕ → HalfMemory → List EffectiveFields
-first_effective m h = take m (frames_in (first_phase m h).notes)
-
--- a half after both phases, with these frames of its partner
-abbrev pub half_run : ℕ → List EffectiveFields → HalfMemory → HalfMemory
-half_run m frames h = half_in (second_phase m frames h)
 
 -- ---- a round of a call: both phases, and the partner's frames between them
 

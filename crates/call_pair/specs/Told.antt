@@ -1,13 +1,12 @@
--- The results of a round's two phases, by the history of their call: the runs of its leg's halves.
-use Rattle.std.specs.Prelude.{◌≡◌, ℕ, ◌*◌, Option, List, [], ◌++◌, length, drop, take, min}
+-- The result of a round, by the history of its calls: the runs of the halves of each leg.
+use Rattle.std.specs.Prelude.{◌≡◌, ℕ, ◌*◌, List, [], ◌++◌, drop, take, min}
 use Rattle.rx_handler.specs.Origin.{EffectiveFields}
-use Rattle.call_leg.specs.Places.{Between}
-use Rattle.call_leg.specs.Halves.{Note, UpStands}
-use Rattle.call_leg.specs.Runs.{LegHistory, UpRun, DownRun, EndsAt, AreNotes, periods_run, handed_run}
+use Rattle.call_leg.specs.Halves.{Note}
+use Rattle.call_leg.specs.Runs.{LegHistory, UpRun, DownRun}
 use Rattle.call_pair.specs.Memory.{IoMemory, HalfMemory, Job, One, Two}
 use Rattle.call_pair.specs.Periods.{up_at, pcm_at}
-use Rattle.call_pair.specs.History.{Start, who_of, settings_past}
-use Rattle.call_pair.specs.Phases.{CallMemory, frames_in}
+use Rattle.call_pair.specs.History.{Start, who_of}
+use Rattle.call_pair.specs.Phases.{frames_in}
 
 -- the history of a call's leg at the start of a round, and the octets of each place
 abbrev pub history_of : Start → LegHistory
@@ -18,31 +17,6 @@ ups_in s k = up_at k s.io
 
 abbrev pub pcms_in : Start → ℕ → List ℕ
 pcms_in s k = pcm_at k s.io
-
--- ---- the phases
-
--- The first phase gives the run of the uplink half: its notes, and its octets at the start of Out. The half then has
--- the memory after the round's periods. A bridge ends at place m.
-pub record Hears (s : Start) (m : ℕ) (j : CallMemory) : Type 0 where
-  pub octets : List ℕ
-  pub run : UpRun (history_of s) (ups_in s) m s.io.given j.notes octets
-  pub out : j.io.out ≡ octets ++ drop (160 * s.io.given) s.io.out
-  pub up : (pcms : ℕ → List ℕ) (handed : ℕ → Option (List ℕ)) →
-      EndsAt (history_of s) m s.io.given handed →
-      UpStands (who_of s) (periods_run (history_of s) (ups_in s) pcms handed s.io.given)
-      (settings_past s.io.given m s.now) j.up
-
--- The second phase gives the run of the downlink half, with these frames of the partner: its octets at the start of
--- Down. The half then has the memory after the round's periods, whatever octets of Up gave the notes.
-pub record Speaks (s : Start) (items : List EffectiveFields) (j : CallMemory) : Type 0 where
-  pub octets : List ℕ
-  pub run : DownRun (history_of s) j.notes items (pcms_in s) s.io.given octets
-  pub down : j.io.down ≡ octets ++ drop (40 * s.io.given) s.io.down
-  pub stands : (ups : ℕ → List ℕ) →
-      AreNotes (history_of s) ups (pcms_in s) items s.io.given j.notes →
-      Between (who_of s)
-      (periods_run (history_of s) ups (pcms_in s) (handed_run (history_of s) items) s.io.given)
-      (settings_past s.io.given (length items) s.now) j.down
 
 -- ---- a job's run
 

@@ -18,7 +18,7 @@
 //! `specs/Periods.antt` (where a period's octets are), `specs/Turn.antt` (one period of such a job),
 //! `specs/Jobs.antt` (from its start to its end), `specs/Phases.antt` and `specs/Kept.antt` (the job of a call in
 //! two phases), `specs/History.antt` (what a round adds to the history of a call), `specs/Finished.antt` and
-//! `specs/Told.antt` (the results of finished jobs and of finished phases).
+//! `specs/Told.antt` (the results of finished jobs).
 #![tactic(auto)]
 
 mod call_job;

@@ -2,7 +2,6 @@ mod Reading
 mod Searching
 pub mod Lines
 pub mod Shifts
-mod Shifted
 mod Once
 mod Rows
 mod Alike

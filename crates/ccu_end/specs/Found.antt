@@ -1,12 +1,10 @@
 -- The frames that a base station finds on a downlink (GSM 08.60; how it searches is this project's profile), and those
 -- that were made. Lists of found frames have the oldest first, lists of periods and of made frames the newest.
-use Rattle.std.specs.Prelude.{◌≡◌, ◌≤◌, ◌<◌, ℕ, ◌+◌, ◌*◌, ℤ, Bool, true, false, ◌&&◌, nat_le, Some, IfSome, List, [], ◌∷◌, ◌++◌, length, replicate, filter}
-use Rattle.std.specs.List.{flat_map}
-use Rattle.time_align.specs.Shift.{IsShift}
+use Rattle.std.specs.Prelude.{◌≡◌, ◌≤◌, ◌<◌, ℕ, ◌+◌, ◌*◌, ℤ, Bool, true, false, ◌&&◌, nat_le, Some, IfSome, List, [], ◌∷◌, ◌++◌, length, filter}
 use Rattle.trau_frame.specs.declared.frames.DownFrame.{DownFrame}
 use Rattle.trau_frame.specs.DownFrame.{HasBits, down_bits}
 use Rattle.trau_frame.specs.Match.{bit_in, is_match, frame_at}
-use Rattle.down_framer.specs.Made.{MadeFrame, octets_to_next, frame_on_line, downlink_of}
+use Rattle.down_framer.specs.Made.{MadeFrame, octets_to_next, downlink_of}
 use Rattle.ccu_end.specs.declared.finds.Found.{Found as Place}
 use Rattle.ccu_end.specs.Read.{down_frame_in, HasLength}
 
@@ -61,26 +59,6 @@ as_made frame (f ∷ fs) = as_made frame fs ++ (record { place = place_of f; fra
 -- the frames whose first 316 bits are among the first n bits of the line
 abbrev pub all_within : ℕ → List FoundFrame → List FoundFrame
 all_within n fs = filter (λ f. nat_le (f.place + 316) n) fs
-
--- ---- any frames and their shifts, the oldest first
-
-abbrev pub Shifted : Type 0
-Shifted = ℤ × DownFrame
-
--- 320 ones, and then each frame with the bits that its shift adds or leaves out
-abbrev pub shifted_line : List Shifted → List ℕ
-shifted_line xs = replicate 320 1 ++ flat_map (λ x. frame_on_line x.0 (down_bits x.1)) xs
-
--- each frame has 260 data bits or is idle, and each shift is one that a framer takes
-abbrev pub AreShifted : List Shifted → Type 0
-AreShifted [] = Unit {0}
-AreShifted (x ∷ xs) = IsShift x.0 × HasLength x.1 × AreShifted xs
-
--- the frames at their places: the first at p, each further one 320 bits and two for each octet of the shift after the
--- one before
-abbrev pub found_from : ℕ → List Shifted → List FoundFrame
-found_from p [] = []
-found_from p (x ∷ xs) = record { place = p; frame = Some x.1 } ∷ found_from (p + 2 * octets_to_next x.0) xs
 
 -- ---- places by shifts, the oldest first
 

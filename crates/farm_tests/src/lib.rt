@@ -5,6 +5,8 @@
 //!
 //! They are in a crate of their own, since a crate with tests is proved a second time with them. They call public
 //! functions only.
+//!
+//! Definitions: `specs/Counter.antt` (the job of the tests of the pool, which writes down how many places remain).
 #![tactic(auto)]
 
 #[cfg(test)]

@@ -1,16 +1,14 @@
 -- For crates above: the decoder's memory stands for all frames since its reset (`home-stands`, `frame-stands`); a
--- frame's 160 samples are words.
+-- frame has 160 samples (`length-samples_of`).
 -- The four blocks of a frame.
-use Rattle.std.proofs.Common.{◌≡◌, ℕ, ◌+◌, suc, ℤ, pos, negsuc, ◌*ℤ◌, ◌+ℤ◌, ◌≤ℤ◌, FitsSigned, w16, All, List, [], ◌∷◌, ◌++◌, length, map, take, refl, sym, ◌∙◌}
+use Rattle.std.proofs.Common.{◌≡◌, ℕ, ◌+◌, suc, ℤ, pos, List, [], ◌∷◌, ◌++◌, length, map, take, refl, sym, ◌∙◌}
 use Rattle.std.proofs.Common.{ap, subst, arith, length-append}
-use Rattle.std.proofs.lemmas.Int.{ints}
 use Rattle.std.proofs.lemmas.List.{take_all, length-map}
-use Rattle.std.proofs.lemmas.List.Elements.{All-map}
 use Rattle.trau_params.specs.Fields.{Fields}
 use Rattle.fr_long.specs.Memory.{LtpMemory}
 use Rattle.fr_long.specs.Stands.{Stands}
 use Rattle.fr_long.specs.Step.{synthesised}
-use Rattle.trau_num.specs.Num.{add_of, mult_r_of, floor_shr}
+use Rattle.trau_num.specs.Num.{add_of, mult_r_of}
 use Rattle.fr_long.specs.Synthesis as long
 use Rattle.fr_long.proofs.Histories.{synthesised-Stands, length-residual_after}
 use Rattle.fr_short.specs.Memory as short
@@ -25,7 +23,6 @@ use Rattle.fr_decoder.specs.Truncation.{truncated}
 use Rattle.fr_decoder.specs.Stands as decoder
 use Rattle.fr_decoder.specs.Memory.{home_memory, DecoderMemory}
 use Rattle.fr_decoder.specs.Step.{decoded_frame, decoded_in_turn, synthesised_blocks}
-use Rattle.trau_num.proofs.Clamped.{add_word}
 use Rattle.fr_long.specs.Synthesis.{LtpBlock, residual_of}
 use Rattle.fr_decoder.specs.Blocks.{ltp_block, one_block, two_blocks, three_blocks, four_blocks, frame_residual}
 
@@ -149,23 +146,3 @@ unfolding samples_of residual_frames synthesis_of
 length-samples_of f past =
     length-map (deemphasised (last_msr past) (synthesis_of (residual_frames (f ∷ past))).0) truncated ∙ length-deemphasised _ (last_msr past)
     ∙ length-filtered _ 0 _ (frame_residual f (blocks_of past)) ∙ length-frame_residual f (blocks_of past)
-
--- ---- and that each is a word
-
--- a number without its three lowest bits
-floor_8 : (z : ℤ) → ((floor_shr z 3 *ℤ pos 8) ≤ℤ z) × (z ≤ℤ (floor_shr z 3 *ℤ pos 8 +ℤ pos 7))
-floor_8 (pos n) = (omega (arith, ints), omega (arith, ints))
-floor_8 (negsuc n) = (omega (arith, ints), omega (arith, ints))
-
-truncated-fits : (msr : ℤ) → FitsSigned w16 (truncated msr)
-unfolding truncated
-truncated-fits msr =
-    let low = (floor_8 (add_of msr msr)).0 in
-    let high = (floor_8 (add_of msr msr)).1 in
-    let f = add_word msr msr in
-    omega (arith, ints)
-
-pub samples-fit : (f : Fields) (past : List Fields) → All (λ x. FitsSigned w16 x) (samples_of f past)
-unfolding samples_of
-samples-fit f past =
-    All-map (λ x. FitsSigned w16 x) truncated (deemphasised (last_msr past) (synthesis_of (residual_frames (f ∷ past))).0) (λ k d l. truncated-fits _)

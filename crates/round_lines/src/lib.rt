@@ -9,8 +9,8 @@
 //! owns the buffers.
 //!
 //! A round is 1 to 250 periods of 20 ms, with 40 octets a period on Up and Down and 160 on Pcm and Out; its rules
-//! are this project's profile. `call_lines` has the state of a call's lines, `lines` reads and writes them, `transfer`
-//! handles one block of a line, and `laws` has the laws.
+//! are this project's profile. `call_lines` has the state of a call's lines, `lines` reads and writes them, and
+//! `transfer` handles one block of a line.
 //!
 //! Definitions: `specs/Transfer.antt` (one block), `specs/Memory.antt` (whole periods, ends, failed lines),
 //! `specs/Portions.antt` (one call: the state of its lines, and its buffers), `specs/Rounds.antt` (many calls),
@@ -18,7 +18,6 @@
 #![tactic(auto)]
 
 mod call_lines;
-pub mod laws;
 mod lines;
 mod transfer;
 

@@ -1,9 +1,9 @@
 -- For crates above: how each call of a run ends, known in its round, and the report once all orders were executed
 -- (`report_end`).
-use Rattle.std.proofs.Common.{◌≡◌, refl, sym, ap, ◌∙◌, subst, ℕ, ◌+◌, ◌<◌, ◌≤◌, Bool, Option, Some, None, List, [], ◌∷◌, ◌++◌, map, arith, true, false}
-use Rattle.std.specs.Prelude.{length, IfSome, not, nat_le, nat_lt, filter, if◌then◌else◌}
+use Rattle.std.proofs.Common.{◌≡◌, refl, sym, ap, ◌∙◌, subst, ℕ, ◌+◌, ◌<◌, ◌≤◌, Bool, Option, Some, None, List, [], ◌∷◌, ◌++◌, map, arith}
+use Rattle.std.specs.Prelude.{length, IfSome, not, nat_lt, filter, if◌then◌else◌}
 use Rattle.std.specs.List.{AllByRecursion}
-use Rattle.std.proofs.lemmas.Bool.{leb-true, le-leb, lt-leb, le-ltb, lt-ltb}
+use Rattle.std.proofs.lemmas.Bool.{le-leb, lt-leb, le-ltb, lt-ltb}
 use Rattle.std.proofs.lemmas.List.{append-nil}
 use Rattle.std.proofs.lemmas.List.Elements.{filter-append, recursion_from_All}
 use Rattle.trau_io.specs.declared.ends.Cause.TheVariants.{Closed, Limit}
@@ -11,7 +11,7 @@ use Rattle.trau_orders.specs.declared.order.Order.{Order}
 use Rattle.switchboard.specs.Calls.{Done, opened_at, closed_at}
 use Rattle.switchboard.specs.Runs.{left_of}
 use Rattle.switchboard.specs.State.{first_stamp, replies_from}
-use Rattle.switchboard.specs.Ends.{lack_of, end_of, spans_of, ends_at}
+use Rattle.switchboard.specs.Ends.{lack_of, end_of, spans_of}
 use Rattle.switchboard.proofs.Orders.OneMore.{or_else}
 use Rattle.switchboard.proofs.Boards.Whole.{end_by}
 use Rattle.run_spec.specs.Run.{Run, given_in, whole_in, done_in}
@@ -21,9 +21,8 @@ use Rattle.run_spec.specs.Facts.{opened_calls, call_line, span_line, report_of}
 use Rattle.run_spec.specs.Now.{IsSoFar, NoOrderTo}
 use Rattle.run_spec.proofs.Orders.Executed.{closed-append, added}
 use Rattle.run_spec.proofs.Orders.OpenCalls.{closed_kept, opened_kept}
-use Rattle.run_spec.proofs.Periods.Settled.{closed_stamp, at_of, ends_by}
-use Rattle.run_spec.proofs.Periods.SoFar.{Rises, left_rises, rest_in, done-rest, rest_above, standing_rest, rest_from, standing_end}
-use Rattle.run_spec.proofs.Lists.{one_value}
+use Rattle.run_spec.proofs.Periods.Settled.{closed_stamp}
+use Rattle.run_spec.proofs.Periods.SoFar.{Rises, left_rises, rest_in, done-rest, rest_above, standing_rest}
 
 -- **A closed call has ended there.**
 pub end_closed : (r : Run) (t : ℕ) (ds : List Done) (left : List Order) (c s e : ℕ) → IsSoFar r t ds left → closed_at c ds ≡ Some e →
@@ -144,36 +143,3 @@ report_end r t ds left failed so n =
       failed = failed;
       left = length os;
     }) (all_left r t ds left so n)
-
--- ---- where a call's lines end it, whatever orders come there
-
--- **The lines end a call where they lack a period, also where an order of that period closes it.**
-pub ends_there : (r : Run) (ds : List Done) (left : List Order) (c s : ℕ) → IsSoFar r (s + whole_in r c) ds left → opened_at c ds ≡ Some s →
-    closed_at c ds ≡ None → s + whole_in r c ≤ r.periods →
-    ends_at (given_in r) r.periods (done_in r) c ≡ s + whole_in r c
-ends_there r ds left c s so o l e = by (closed_at c (rest_in r ds left)) refl
-  where
-    opened : opened_at c (done_in r) ≡ Some s
-    opened = ap (opened_at c) (done-rest r (s + whole_in r c) ds left so) ∙ opened_kept ds (rest_in r ds left) c s o
-
-    closed : (v : Option ℕ) → closed_at c (rest_in r ds left) ≡ v → closed_at c (done_in r) ≡ v
-    closed v f =
-        ap (closed_at c) (done-rest r (s + whole_in r c) ds left so) ∙ closed-append c ds (rest_in r ds left)
-        ∙ ap (λ u. or_else u (closed_at c (rest_in r ds left))) l ∙ f
-
-    there : (b : Bool) → nat_le r.periods (s + whole_in r c) ≡ b →
-        at_of (if b then record { call = c; at = r.periods; cause = Limit }
-        else record { call = c; at = s + whole_in r c; cause = lack_of (whole_in r c) (given_in r c) }) ≡ s + whole_in r c
-    there true f = let g = leb-true r.periods (s + whole_in r c) f in omega arith
-    there false f = refl
-
-    by : (v : Option ℕ) → closed_at c (rest_in r ds left) ≡ v → ends_at (given_in r) r.periods (done_in r) c ≡ s + whole_in r c
-    by None f = ends_by (given_in r) r.periods (done_in r) c s None opened (closed None f) ∙ there (nat_le r.periods (s + whole_in r c)) refl
-    by (Some w) f =
-        let k = (standing_end r so.orders).closed c w (closed (Some w) f) in
-        let m : k.start ≡ s = one_value (opened_at c (done_in r)) k.start s k.opened opened in
-        let low : s + whole_in r c ≤ w =
-        subst (λ (v : Option ℕ). IfSome v (λ w. s + whole_in r c ≤ w)) f
-        (closed_stamp (λ w. s + whole_in r c ≤ w) c (rest_in r ds left) (rest_from r (s + whole_in r c) ds left so)) in
-        let high : w ≤ k.start + whole_in r c = k.alive in
-        ends_by (given_in r) r.periods (done_in r) c s (Some w) opened (closed (Some w) f) ∙ let q : w ≡ s + whole_in r c = omega (arith, m) in q

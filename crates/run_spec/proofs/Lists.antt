@@ -118,10 +118,6 @@ found P p (y ∷ xs) x h e = elim (cases_Bool (p y)) [
 
 -- ---- whether any passes
 
-pub any_same : {X : Type 0} (p q : X → Bool) (xs : List X) → AllByRecursion (λ x. p x ≡ q x) xs → list_any p xs ≡ list_any q xs
-any_same p q [] h = refl
-any_same p q (x ∷ xs) h = ap (λ t. t || list_any p xs) h.0 ∙ ap (λ t. q x || t) (any_same p q xs h.1)
-
 pub any_none : {X : Type 0} (p : X → Bool) (xs : List X) → AllByRecursion (λ x. p x ≡ false) xs → list_any p xs ≡ false
 any_none p [] h = refl
 any_none p (x ∷ xs) h = ap (λ t. t || list_any p xs) h.0 ∙ any_none p xs h.1
@@ -148,21 +144,6 @@ none_any p (x ∷ xs) e = let h = by (p x) (list_any p xs) e in (h.0, none_any p
 abbrev pub AtMostOne : {X : Type 0} → (X → Bool) → List X → Type 0
 AtMostOne p [] = Unit {0}
 AtMostOne p (x ∷ xs) = (p x ≡ true → find p xs ≡ None) × AtMostOne p xs
-
-some_none : {X : Type 0} (t : Bool) (x : X) (o : Option X) → t ≡ true → (if t then Some x else o) ≡ None → ⊥
-some_none t x o e f = cc
-
--- one more that passes where none did
-pub one_append : {X : Type 0} (p : X → Bool) (xs : List X) (y : X) → AtMostOne p xs → (p y ≡ true → find p xs ≡ None) → AtMostOne p (xs ++ y ∷ [])
-one_append p [] y h k = (λ e. refl, tt)
-one_append p (x ∷ xs) y h k = (
-  λ e. find_front p xs (y ∷ []) (elim (cases_Bool (p y)) [ inl t ↦ absurd (some_none (p x) x (find p xs) e (k t)) | inr f ↦ (f, tt) ]) ∙ h.0 e,
-  one_append p xs y h.1 (λ e. rest (p x) x (find p xs) (k e)),
-)
-  where
-    rest : {X : Type 0} (t : Bool) (x : X) (o : Option X) → (if t then Some x else o) ≡ None → o ≡ None
-    rest true x o e = cc
-    rest false x o e = e
 
 -- a test that fewer pass
 pub one_weaker : {X Y : Type 0} (p : X → Bool) (q : Y → Bool) (f : X → Y) (xs : List X) → AllByRecursion (λ x. q (f x) ≡ true → p x ≡ true) xs →

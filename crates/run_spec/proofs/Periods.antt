@@ -4,4 +4,3 @@ pub mod SoFar
 pub mod Same
 pub mod History
 pub mod Next
-pub mod Rounds

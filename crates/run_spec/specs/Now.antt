@@ -1,7 +1,7 @@
 -- The periods and settings of a run's calls, from what is known while the run goes on. `ds` are the orders that were
 -- executed so far, the oldest first, and `left` the remaining ones. At the clock t, no executed order has a stamp above
 -- t, and no remaining one a stamp below t.
-use Rattle.std.specs.Prelude.{◌≡◌, ℕ, zero, suc, ◌+◌, ◌-◌, ◌<◌, ◌≤◌, Bool, ◌&&◌, ◌||◌, if◌then◌else◌, ◌==◌, nat_lt, Option, is_some, is_none, IfSome}
+use Rattle.std.specs.Prelude.{◌≡◌, ℕ, ◌+◌, ◌-◌, ◌<◌, ◌≤◌, Bool, ◌&&◌, ◌||◌, if◌then◌else◌, ◌==◌, nat_lt, Option, is_some, is_none, IfSome}
 use Rattle.std.specs.Prelude.{option_map, find, Result, Ok, Err, List, ◌++◌, map, pos}
 use Rattle.std.specs.List.{All, list_any}
 use Rattle.trau_orders.specs.declared.order.Order.{Order}
@@ -17,7 +17,7 @@ use Rattle.switchboard.specs.State.{first_stamp}
 use Rattle.switchboard.specs.Runs.{IsRun}
 use Rattle.switchboard.specs.Ends.{start_of}
 use Rattle.call_leg.specs.Periods.{CallPeriod}
-use Rattle.call_leg.specs.Settings.{Settings, new_settings, settings_later, with_level, with_mode, with_bridge, without_bridge}
+use Rattle.call_leg.specs.Settings.{Settings, new_settings, with_level, with_mode, with_bridge, without_bridge}
 use Rattle.run_spec.specs.Run.{Run, whole_in, level_after, dtx_mode_after, up_in, pcm_in, ups_to, item_of}
 
 -- A run so far: its orders are the executed ones, with the replies that the definition gives, and then the remaining
@@ -80,8 +80,3 @@ changed_by c (Ok (act.Unbridged a b)) now = if c == a || c == b then without_bri
 changed_by c (Ok (act.LevelSet d level)) now = if c == d then with_level level now else now
 changed_by c (Ok (act.DtxSet d mode)) now = if c == d then with_mode mode now else now
 changed_by c (Err refusal) now = now
-
--- the settings after k further periods, if the bridge goes on
-abbrev pub after_periods : ℕ → Settings → Settings
-after_periods zero now = now
-after_periods (suc k) now = settings_later (after_periods k now)

@@ -4,13 +4,13 @@
 //!
 //! `rx_subst` makes the receive side's frames for lost speech, and `rx_noise` those for silence descriptors. Both lower
 //! the block maxima by steps, draw some fields from the call's random source, and end with the frame of silence.
-//! `levels` has the muting, `draws` the laws of numbered draws.
+//! `levels` has the muting, `draws` how many values a drawn grid can have.
 //!
 //! Definitions: `specs/Draws.antt` (the draws of a source by their numbers), `specs/Muting.antt` (lowered maxima). The
 //! numbers are this project's profile, within the requirements of GSM 06.11 and GSM 06.12.
 #![tactic(auto)]
 
-pub mod draws;
+mod draws;
 mod levels;
 
 pub use draws::GRID_VALUES;

@@ -1,7 +1,7 @@
 mod Laid
 mod Mapping
-pub mod MuOctets
+mod MuOctets
 mod MuSegments
-pub mod Octets
+mod Octets
 mod Rows
 mod Segments

@@ -1,4 +1,3 @@
--- For crates above: each word is in the interval of only one mu-law octet (`parts`).
 -- The octets of mu-law, and the one whose interval holds a value.
 use Rattle.std.proofs.Common.{◌≡◌, ℕ, ◌+◌, ◌/◌, ◌%◌, ◌<◌, ◌≤◌, Bool, true, false, nat_eq, nat_le, nat_lt, if◌then◌else◌, bit_xor, ℤ, pos, ◌<ℤ◌, ◌≤ℤ◌, refl}
 use Rattle.std.proofs.Common.{arith}

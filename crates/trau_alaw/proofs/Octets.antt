@@ -1,5 +1,3 @@
--- For crates above: each word is in the interval of only one A-law octet (`parts`), and that is the law's octet of it
--- (`octet_of-only`).
 -- The octets of A-law, and the one whose interval holds a value.
 use Rattle.std.proofs.Common.{◌≡◌, ℕ, ◌+◌, ◌/◌, ◌%◌, ◌<◌, ◌≤◌, true, nat_eq, nat_le, bit_xor, ℤ, pos, ◌<ℤ◌, ◌≤ℤ◌, refl, arith}
 use Rattle.std.specs.List.{list_all, range_with_len}
@@ -7,7 +5,7 @@ use Rattle.std.proofs.lemmas.Bool.{eqb-true}
 use Rattle.trau_alaw.specs.Companding.{Companding, magnitude, contains, middle, octet_of, IsOnlyOctet, PartsWords}
 use Rattle.trau_alaw.specs.Alaw.{alaw, alaw_least, alaw_width}
 use Rattle.trau_alaw.proofs.Segments.{IsAt}
-use Rattle.trau_alaw.proofs.Laid.{entry, IsLaid, IsIn}
+use Rattle.trau_alaw.proofs.Laid.{entry, IsLaid}
 use Rattle.trau_alaw.proofs.Laid as laid
 
 -- the least magnitude of the interval with that number, segment and step as one number of seven bits

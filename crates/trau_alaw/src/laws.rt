@@ -6,20 +6,13 @@ ghost use Rattle.trau_alaw.specs.Companding.{PartsWords};
 ghost use Rattle.trau_alaw.specs.Alaw.{alaw};
 ghost use Rattle.trau_alaw.specs.Laws.{companding};
 
-use crate::{Law, compress, compress_law, expand, expand_law};
+use crate::{Law, compress_law, expand_law};
 
 /// Each sample of 16 bits lies in the interval of exactly one octet, in each law.
 pub fn intervals_part_the_words()
     ensures alaw { PartsWords alaw }
     ensures each { (law : Law) → PartsWords (companding law) }
 {}
-
-/// Expands and compresses an A-law octet: the result is the same octet.
-pub fn recompress(octet: u8) -> u8
-    ensures { result ≡ octet }
-{
-    compress(expand(octet))
-}
 
 /// Expands and compresses an octet of a line with this law: the result is the same octet, except for 0x7F, the negative
 /// zero of mu-law.

@@ -19,7 +19,7 @@ ghost use Rattle.trau_alaw.specs.Companding.{magnitude, middle, octet_of, IsOnly
 ghost use Rattle.trau_alaw.specs.Alaw.{alaw, alaw_least, alaw_width};
 ghost use Rattle.trau_alaw.specs.Laws.{companding, idle_of};
 
-pub use laws::{intervals_part_the_words, recompress, recompress_law};
+pub use laws::{intervals_part_the_words, recompress_law};
 pub use period::{compress_all, expand_all};
 
 /// The law of a PCM line.

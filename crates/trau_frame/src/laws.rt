@@ -1,13 +1,13 @@
 //! Laws of frames, each the contract of a function that does nothing.
 
-ghost use Rattle.std.specs.Prelude.{◌≡◌, ◌≢◌, ◌+◌, ◌<◌, ◌≤◌, ◌-◌, ◌↔◌, ℕ, List, length, slice_index, true};
+ghost use Rattle.std.specs.Prelude.{◌≡◌, ◌≢◌, ◌+◌, ◌<◌, ◌≤◌, ◌↔◌, ℕ, List, length, true};
 ghost use Rattle.trau_frame.specs.declared.frames.UpFrame.{UpFrame};
-ghost use Rattle.trau_frame.specs.Role.{Role, Sync, Control, role_of, place_of_role, bit_with, IsRole};
-ghost use Rattle.trau_frame.specs.Frame.{Synced, data_of, frame_bits};
+ghost use Rattle.trau_frame.specs.Role.{Role, Sync, role_of, place_of_role, IsRole};
+ghost use Rattle.trau_frame.specs.Frame.{Synced};
 ghost use Rattle.trau_frame.specs.UpFrame.{Says};
 ghost use Rattle.trau_frame.specs.UpBits.{up_bits, FitsKind, SameFrame};
 ghost use Rattle.trau_frame.specs.DownFrame.{down_bits};
-ghost use Rattle.trau_frame.specs.Match.{is_match, frame_at};
+ghost use Rattle.trau_frame.specs.Match.{is_match};
 ghost use Rattle.trau_frame.specs.Relay.{IsGoodSpeech, relayed_bits};
 
 use crate::frames::{Class, DownFrame, Kind};
@@ -17,16 +17,6 @@ pub fn roles_and_places()
     ensures within { (i : ℕ) → i < 320 → IsRole (role_of i) }
     ensures found { (role : Role) → IsRole role → role_of (place_of_role role) ≡ role }
     ensures only { (i : ℕ) → i < 320 → ((bit : ℕ) → role_of i ≢ Sync bit) → place_of_role (role_of i) ≡ i }
-{}
-
-/// A frame that is written with control and data bits has 320 bits and the sync pattern, and the same bits are read
-/// from it.
-pub fn written_bits_are_read()
-    ensures count { (control d : List ℕ) → length (frame_bits control d) ≡ 320 }
-    ensures synced { (control d : List ℕ) → Synced (frame_bits control d) }
-    ensures control { (control d : List ℕ) (c : ℕ) → 1 ≤ c → c ≤ 21 →
-        bit_with (frame_bits control d) (Control c) ≡ slice_index control (c - 1) }
-    ensures data_bits { (control d : List ℕ) → length d ≡ 260 → data_of (frame_bits control d) ≡ d }
 {}
 
 /// A frame that was read is good speech exactly if its bits are, and its data bits give the relayed frame.
@@ -43,11 +33,6 @@ pub fn written_uplink_is_read()
     ensures synced { (f : UpFrame) → Synced (up_bits f) }
     ensures says { (f : UpFrame) → length f.d ≡ 260 → FitsKind f.kind f.class → Says (up_bits f) f }
     ensures same { (f g : UpFrame) → length f.d ≡ 260 → FitsKind f.kind f.class → Says (up_bits f) g → SameFrame f g }
-{}
-
-/// A place of a line matches exactly if the 320 bits from it on carry the sync pattern.
-pub fn matches_are_sync_patterns()
-    ensures { (line : ℕ → ℕ) (p : ℕ) → (is_match line p ≡ true) ↔ Synced (frame_at line p) }
 {}
 
 /// Two matching places of one line are at least 305 bits apart. If they were nearer, a sync zero of one frame would be

@@ -2,7 +2,6 @@
 
 ghost use Rattle.std.specs.Prelude.{◌≡◌};
 ghost use Rattle.trau_params.specs.Bits260.{bits260_of, SameFields};
-ghost use Rattle.trau_params.specs.Fields.{fields_of, fields_in};
 ghost use Rattle.trau_params.specs.Places.{FieldsStand};
 ghost use Rattle.trau_params.specs.Shape.{HasShape};
 
@@ -47,11 +46,4 @@ pub fn fields_stand(p: Params)
     ensures { FieldsStand p (bits260_of p) }
 {
     crate::laws::has_shape(p);
-}
-
-/// The fields that the 260 bits of a frame carry are the frame's own.
-pub fn fields_carried(p: &Params)
-    ensures { fields_in (bits260_of p.now) ≡ fields_of p.now }
-{
-    crate::laws::has_shape(*p);
 }

@@ -1,7 +1,6 @@
 -- Four lines, read one behind the other.
-use Rattle.std.proofs.Common.{◌≡◌, inl, inr, ℕ, ◌+◌, ◌<◌, ◌≤◌, List, [], length, set, get_or, refl, sym, ◌∙◌, subst, arith, length-set}
-use Rattle.std.proofs.lemmas.Bool.{cases_eq}
-use Rattle.std.proofs.lemmas.List.{get_or-set_same, get_or-set_other, take_all}
+use Rattle.std.proofs.Common.{◌≡◌, ℕ, ◌+◌, ◌<◌, ◌≤◌, List, [], length, get_or, sym, ◌∙◌, subst, arith}
+use Rattle.std.proofs.lemmas.List.{take_all}
 use Rattle.trau_io.specs.declared.line.Side.{Side}
 use Rattle.trau_io.specs.declared.line.Side.TheVariants.{Up}
 use Rattle.trau_io.specs.declared.transfer.Filled.TheVariants.{Whole, Ended}
@@ -18,17 +17,6 @@ pub record ReadSoFar (before now : ℕ → Side → LineState) (call : ℕ) (blo
   pub rest : (j : ℕ) → n ≤ j → now (call + j) Up ≡ before (call + j) Up
   pub others : AllButFour before now call Up
 
--- before the first line
-pub at_start : (lines : ℕ → Side → LineState) (call : ℕ) (blocks : List (List ℕ)) (counts : List ℕ) → length blocks ≡ 4 → length counts ≡ 4 →
-    ReadSoFar lines lines call blocks counts 0
-at_start lines call blocks counts b c = record {
-  four_blocks = b;
-  four_counts = c;
-  done = λ j below. absurd (omega arith);
-  rest = λ j above. refl;
-  others = λ c s not. refl;
-}
-
 module _ (before now after : ℕ → Side → LineState) (call : ℕ) (blocks : List (List ℕ)) (counts : List ℕ) (n : ℕ) (few : n < 4)
     (so_far : ReadSoFar before now call blocks counts n) (others : OthersStay now after (call + n) Up) where
   -- the next line is as it was, and the others stay
@@ -44,36 +32,6 @@ module _ (before now after : ℕ → Side → LineState) (call : ℕ) (blocks : 
 
   later : (j : ℕ) → n < j → after (call + j) Up ≡ before (call + j) Up
   later j above = kept j (λ e. omega arith) ∙ so_far.rest j (omega arith)
-
-  pub all_but_four : AllButFour before after call Up
-  all_but_four = λ c s not. others c s (λ e f. not n few e f) ∙ so_far.others c s not
-
-  -- one line more
-  pub one_more : (block : List ℕ) (count : ℕ) → GivesBlock (now (call + n) Up) (after (call + n) Up) block count →
-      ReadSoFar before after call (set blocks n block) (set counts n count) (n + 1)
-  one_more block count gave = record {
-    four_blocks = length-set blocks n block ∙ so_far.four_blocks;
-    four_counts = length-set counts n count ∙ so_far.four_counts;
-    done = λ j below. elim (cases_eq j n) [
-      | inl e ↦ subst (λ i. GivesBlock (before (call + i) Up) (after (call + i) Up) (get_or (set blocks n block) i []) (get_or (set counts n count) i 0))
-          (sym e) here
-      | inr ne ↦
-          subst (λ b. GivesBlock (before (call + j) Up) (after (call + j) Up) b (get_or (set counts n count) j 0))
-          (sym (get_or-set_other blocks n j block [] ne))
-          (subst (λ m. GivesBlock (before (call + j) Up) (after (call + j) Up) (get_or blocks j []) m) (sym (get_or-set_other counts n j count 0 ne))
-          (earlier j (omega arith)))
-    ];
-    rest = λ j above. later j (omega arith);
-    others = all_but_four;
-  }
-    where
-      here : GivesBlock (before (call + n) Up) (after (call + n) Up) (get_or (set blocks n block) n []) (get_or (set counts n count) n 0)
-      here =
-          subst (λ l. GivesBlock l (after (call + n) Up) (get_or (set blocks n block) n []) (get_or (set counts n count) n 0)) fresh
-          (subst (λ b. GivesBlock (now (call + n) Up) (after (call + n) Up) b (get_or (set counts n count) n 0))
-          (sym (get_or-set_same blocks n block [] (omega (arith, so_far.four_blocks))))
-          (subst (λ m. GivesBlock (now (call + n) Up) (after (call + n) Up) block m)
-          (sym (get_or-set_same counts n count 0 (omega (arith, so_far.four_counts)))) gave))
 
   -- a line failed
   pub fails : FailsInside (now (call + n) Up) (after (call + n) Up) → FailsAt (channel_lines before call Up) (channel_lines after call Up) n

@@ -7,7 +7,7 @@ use Rattle.trau_io.specs.declared.line.Side.TheVariants.{Up, Out}
 use Rattle.trau_io.specs.Lines.{LineState, OthersStay}
 use Rattle.trau_io.specs.Transfer.{WritesAll}
 use Rattle.trau_submux.specs.Channels.{IsMerged, subchannel}
-use Rattle.trau_submux.specs.Lines.{AllButFive, AllButFour, Gains, GainsFront, channel_lines}
+use Rattle.trau_submux.specs.Lines.{AllButFour, Gains, GainsFront, channel_lines}
 use Rattle.trau_submux.specs.Merges.{GivesBlock, GivesPart, Takes}
 use Rattle.trau_submux.proofs.Merged.{merged-take}
 
@@ -28,9 +28,6 @@ module _ (before middle after : ℕ → Side → LineState) (call : ℕ) (subs :
 
   out_stays : middle call Out ≡ before call Out
   out_stays = read_others call Out (λ j below e f. absurd (cc))
-
-  pub others : AllButFive before after call Out Up
-  others = λ c s not_slot not_channel. write_others c s not_slot ∙ read_others c s not_channel
 
   -- how much each line gave
   length_given : (j : ℕ) → j < 4 → length (take (get_or counts j 0) (get_or subs j [])) ≡ get_or counts j 0

@@ -1,11 +1,7 @@
-//! Laws of the channels of a slot.
-ghost use Rattle.std.specs.Prelude.{◌≡◌, ◌*◌, ◌<◌, ℕ, List, length, All};
-ghost use Rattle.trau_submux.specs.Channels.{subchannel};
+//! A law of the channels of a slot: the contract of a function that does nothing.
 
-/// Each octet gives each channel two bits.
-pub fn a_channel_has_two_bits_an_octet()
-    ensures { (j : ℕ) (octets : List ℕ) → length (subchannel j octets) ≡ 2 * length octets }
-{}
+ghost use Rattle.std.specs.Prelude.{◌≡◌, ◌<◌, ℕ, List, All};
+ghost use Rattle.trau_submux.specs.Channels.{subchannel};
 
 /// The four channels together determine the whole slot: none of its bits is missing.
 pub fn the_channels_are_the_slot()

@@ -136,13 +136,6 @@ bridge_each whole t u ds c d x s l e j = by (bridge_of (gone_at whole u ds) ds d
         ((found (λ x. (joins d x && lasts (gone_at whole u ds) ds x) ≡ true → x ≡ y) (λ x. joins c x && lasts (gone_at whole u ds) ds x) (bridges ds) x
         (one_found _ (bridges ds) y (standing_one whole t u ds d s l) f) e).0 passes))
 
--- **The partner's bridge in a period is the same one.**
-pub bridge_partner : (r : Run) (t u : ℕ) (ds : List Done) (c : ℕ) (x : Bridge) → Standing (whole_in r) t ds → t ≤ u → u < r.periods →
-    bridge_now r ds u c ≡ Some x → bridge_now r ds u (other c x) ≡ Some x
-bridge_partner r t u ds c x s l m e =
-    sym (bridge_after r t u ds (other c x) s m)
-    ∙ bridge_each (whole_in r) t (u + 1) ds c (other c x) x s (omega arith) (bridge_after r t u ds c s m ∙ e) (joins_other c x)
-
 -- ---- settings
 
 -- settings are the same by their parts

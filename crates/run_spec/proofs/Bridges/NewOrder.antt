@@ -21,10 +21,6 @@ use Rattle.run_spec.proofs.Orders.Shown.{ShownBy, closes, done}
 use Rattle.run_spec.proofs.Orders.OpenCalls.{open_facts, shut_cases, gone_is, opened_kept, either, closed_cases}
 use Rattle.run_spec.proofs.Bridges.Standing.{IsSoundBridge, Standing, lasts_from}
 
--- whether a call is open after these orders
-abbrev here : (ℕ → ℕ) → ℕ → List Done → ℕ → Bool
-here whole t ds = gone_at whole t ds
-
 -- a close ends the bridge of its call that lasts
 abbrev pub IsParted : (ℕ → ℕ) → ℕ → List Done → Result Act Refusal → Bridge → Type 0
 IsParted whole t ds r x =

@@ -104,21 +104,6 @@ run_replies whole ds r =
     let e : added whole [] (map (λ d. d.order) ds) ≡ ds = sym (done_after-added whole [] (map (λ d. d.order) ds)) ∙ sym r in
     subst (λ (ds : List Done). AreReplies whole [] ds) e (added_replies whole [] (map (λ d. d.order) ds))
 
--- right replies are those that executing gives
-pub replies_executed : (whole : ℕ → ℕ) (ds later : List Done) → AreReplies whole ds later → done_after whole ds (map (λ d. d.order) later) ≡ ds ++ later
-replies_executed whole ds [] h = sym (append-nil ds)
-replies_executed whole ds (d ∷ later) h =
-    let e : done_next whole ds d.order ≡ d = ap (λ x. record { order = d.order; result = x }) (sym h.0) in
-    ap (λ (e : Done). done_after whole (ds ++ e ∷ []) (map (λ d. d.order) later)) e
-    ∙ replies_executed whole (ds ++ d ∷ []) later h.1
-    ∙ append_assoc ds (d ∷ []) later
-
--- the replies to two lists, one after the other
-pub replies_append : (whole : ℕ → ℕ) (ds xs ys : List Done) → AreReplies whole ds xs → AreReplies whole (ds ++ xs) ys → AreReplies whole ds (xs ++ ys)
-replies_append whole ds [] ys h k = subst (λ (ds : List Done). AreReplies whole ds ys) (append-nil ds) k
-replies_append whole ds (d ∷ xs) ys h k =
-    (h.0, replies_append whole (ds ++ d ∷ []) xs ys h.1 (subst (λ (ds : List Done). AreReplies whole ds ys) (sym (append_assoc ds (d ∷ []) xs)) k))
-
 -- and those to the second one
 pub replies_back : (whole : ℕ → ℕ) (ds xs ys : List Done) → AreReplies whole ds (xs ++ ys) → AreReplies whole (ds ++ xs) ys
 replies_back whole ds [] ys h = subst (λ (ds : List Done). AreReplies whole ds ys) (sym (append-nil ds)) h
