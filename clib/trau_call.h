@@ -19,7 +19,9 @@
  *   - Datagrams are passed whole; of one that is cut the rest is missing.
  *   - Each tick has one turn, in its order. After time that was given up, trau_call_give_up is told it before the next turn, with the tick of
  *     that turn.
- *   - If records are to be replayed, the level and dtx of a turn are those of the last order for the call in the recording's orders.
+ *   - If records are to be replayed, the call's number is 1 to 4096, and the recording's orders open the call, with this number and its law,
+ *     in the period of its first turn. The level (0 to 32,767) and the dtx of a turn are those of the last `level` and `dtx` order for the call.
+ *     There is a `dtx` order with the `open`, since `trau run` begins a call with `dtx C uplink`.
  *   - Records are kept whole and in their order, from the first period on. If one is lost, the recording ends there.
  *   - Each pointer is not null and points to a whole, aligned object of the declared size, and `octets` to `count` octets, not null even if
  *     count is 0. An object that a function writes overlaps no other argument. What a function only writes need not be initialised.
@@ -164,10 +166,10 @@ uint32_t trau_call_packet(struct trau_call *call, uint32_t side, const uint8_t *
  * is below the level is a pause, if dtx is true (trau_fr_send of trau_fr.h). */
 bool trau_call_turn(struct trau_call *call, uint32_t tick, int16_t level, bool dtx, struct trau_record *record, struct trau_datagrams *datagrams);
 
-/* A period of the bridge of two calls, in which each base station gets the other one's frames. records[0] and datagrams[0] are of `one`. Bit 1
- * of the result says that the datagram to the base station of `one` is to be sent, bit 2 that of `other`: both are, in each period. */
-uint32_t trau_call_turn_pair(struct trau_call *one, struct trau_call *other, uint32_t tick, struct trau_record records[2],
-                             struct trau_datagrams datagrams[2]);
+/* A period of the bridge of two calls, in which each base station gets the other one's frames. records[0] and datagrams[0] are of `one`. All
+ * datagrams are to be sent. */
+void trau_call_turn_pair(struct trau_call *one, struct trau_call *other, uint32_t tick, struct trau_record records[2],
+                         struct trau_datagrams datagrams[2]);
 
 /* The host's clock has given up periods: they have no turn. */
 void trau_call_give_up(struct trau_call *call, uint32_t periods, uint32_t tick);

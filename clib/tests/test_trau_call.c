@@ -198,8 +198,8 @@ static void bridged(struct tried *one, struct tried *other, uint32_t tick)
     struct trau_record records[2];
     struct trau_datagrams datagrams[2];
     uint8_t handed[2][33], out[160], down[40];
-    uint32_t sent = trau_call_turn_pair(&one->call, &other->call, tick, records, datagrams);
 
+    trau_call_turn_pair(&one->call, &other->call, tick, records, datagrams);
     for (int k = 0; k < 2; k++) {
         uint32_t kind = TRAU_FR_LOST;
         bool taf = false;
@@ -214,7 +214,7 @@ static void bridged(struct tried *one, struct tried *other, uint32_t tick)
         compress(both[k]->settings.law, silence, out);
         trau_fr_write_downlink(handed[1 - k], TRAU_FR_SPEECH, down);
         both[k]->replays &= !memcmp(out, records[k].out, 160) && !memcmp(down, records[k].down, 40);
-        carry(both[k], tick, &records[k], &datagrams[k], sent >> k & 1);
+        carry(both[k], tick, &records[k], &datagrams[k], true);
     }
 }
 

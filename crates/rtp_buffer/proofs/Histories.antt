@@ -1,31 +1,43 @@
 -- What waits in time is the first octet that came.
 use Rattle.std.proofs.Common.{◌≡◌, ◌<◌, ◌≤◌, ℕ, subst, List, [], ◌∷◌, length, refl, arith}
-use Rattle.std.specs.Prelude.{Option, Some, None, unwrap_or, true, ◌≢◌, slice_index_or, ◌==◌, if◌then◌else◌}
+use Rattle.std.specs.Prelude.{Bool, Option, Some, None, unwrap_or, true, false, ◌≢◌, slice_index_or, ◌==◌, if◌then◌else◌}
 use Rattle.rtp_buffer.specs.declared.octet.Octet.{Octet}
 use Rattle.rtp_buffer.specs.declared.octet.Octet.TheVariants.{Missing, Held}
 use Rattle.rtp_buffer.specs.Octets.{came, with_octet, heard, after_taking, after_leaving_out}
 use Rattle.rtp_buffer.specs.declared.slot.Slot.{Slot}
 use Rattle.rtp_buffer.specs.Store.{place, slot_of, is_before, in_slot, no_slot}
 use Rattle.rtp_buffer.proofs.Slots.{nothing_at}
-use Rattle.rtp_buffer.specs.History.{Deed, Put, Take, LeaveOut, LeaveOutBefore, step, place_after, came_by, or_else, first_came, leaves, is_waiting, Stands}
+use Rattle.rtp_buffer.specs.History.{Deed, Put, Take, LeaveOut, LeaveOutBefore, step, place_after, came_by, or_else, first_came, gives_away, leaves, is_waiting, Stands}
 
 -- a place where nothing was played
 waiting : Option ℕ → Octet
 waiting (Some octet) = Held octet
 waiting None = Missing
 
-one_more : (deed : Deed) (period k : ℕ) (first : Option ℕ) → leaves deed period ≡ true → step deed period k (waiting first) ≡ waiting (or_else first (came_by deed period k))
+one_more : (deed : Deed) (period k : ℕ) (first : Option ℕ) → gives_away deed period ≡ false → leaves deed period ≡ true →
+    step deed period k (waiting first) ≡ waiting (or_else first (came_by deed period k))
 unfolding waiting
-one_more (Put other part octets) period k (Some octet) h = grind (arith, h)
-one_more (Put other part octets) period k None h = grind (arith, h)
-one_more (Take other) period k first h = grind (arith, h)
-one_more (LeaveOut other) period k first h = grind (arith, h)
-one_more (LeaveOutBefore other) period k first h = grind (arith, h)
+one_more (Put other part octets) period k (Some octet) own h = grind (arith, own)
+one_more (Put other part octets) period k None own h = grind (arith, own)
+one_more (Take other) period k first own h = grind (arith, h)
+one_more (LeaveOut other) period k first own h = grind (arith, h)
+one_more (LeaveOutBefore other) period k first own h = grind (arith, h)
+
+forgotten : (deed : Deed) (period k : ℕ) (octet : Octet) → gives_away deed period ≡ true → step deed period k octet ≡ Missing
+forgotten (Put other part octets) period k octet away = grind (arith, away)
+forgotten (Take other) period k octet away = absurd (grind (arith, away))
+forgotten (LeaveOut other) period k octet away = absurd (grind (arith, away))
+forgotten (LeaveOutBefore other) period k octet away = absurd (grind (arith, away))
 
 stands : (deeds : List Deed) (period k : ℕ) → is_waiting deeds period ≡ true → place_after deeds period k ≡ waiting (first_came deeds period k)
 unfolding waiting
 stands [] period k h = refl
-stands (deed ∷ deeds) period k h = grind (arith, h, stands deeds period k, one_more deed period k (first_came deeds period k))
+stands (deed ∷ deeds) period k h = by_slot (stands deeds period k) (gives_away deed period) refl
+  where
+    by_slot : (is_waiting deeds period ≡ true → place_after deeds period k ≡ waiting (first_came deeds period k)) → (away : Bool) → gives_away deed period ≡ away →
+        place_after (deed ∷ deeds) period k ≡ waiting (first_came (deed ∷ deeds) period k)
+    by_slot before true e = grind (arith, e, forgotten deed period k (place_after deeds period k))
+    by_slot before false e = grind (arith, h, e, before, one_more deed period k (first_came deeds period k))
 
 heard_waiting : (first : Option ℕ) (filler : ℕ) → heard (waiting first) filler ≡ unwrap_or first filler
 unfolding waiting

@@ -1,5 +1,5 @@
 -- What became of a store, by all that was done with it, the latest first.
-use Rattle.std.specs.Prelude.{◌≡◌, ℕ, if◌then◌else◌, ◌==◌, Option, Some, None, List, [], ◌∷◌, length, Bool, ◌&&◌, ◌||◌, not, true}
+use Rattle.std.specs.Prelude.{◌≡◌, ℕ, if◌then◌else◌, ◌==◌, Option, Some, None, List, [], ◌∷◌, length, Bool, ◌&&◌, ◌||◌, not, true, false}
 use Rattle.rtp_buffer.specs.declared.octet.Octet.{Octet}
 use Rattle.rtp_buffer.specs.declared.octet.Octet.TheVariants.{Missing}
 use Rattle.rtp_buffer.specs.declared.slot.Slot.{Slot}
@@ -31,7 +31,7 @@ place_after (deed ∷ deeds) period k = step deed period k (place_after deeds pe
 pub record Stands {N : ℕ} (deeds : List Deed) (slots : List (Slot N)) : Type 0 where
   pub places : (period k : ℕ) → place slots period k ≡ place_after deeds period k
 
--- the octet that came for a place, if one did; and the first one of all
+-- the octet that came for a place, if one did
 abbrev pub came_by : Deed → ℕ → ℕ → Option ℕ
 came_by (Put other part octets) period k = if other == period then came part octets (length octets) k else None
 came_by (Take other) period k = None
@@ -42,18 +42,25 @@ abbrev pub or_else : Option ℕ → Option ℕ → Option ℕ
 or_else (Some octet) later = Some octet
 or_else None later = later
 
+-- whether octets of another period come into the slot of a period: what came for that one before is forgotten
+abbrev pub gives_away : Deed → ℕ → Bool
+gives_away (Put other part octets) period = not (other == period) && (slot_of other == slot_of period)
+gives_away (Take other) period = false
+gives_away (LeaveOut other) period = false
+gives_away (LeaveOutBefore first) period = false
+
+-- the first octet of all that came for a place since another period had its slot
 abbrev pub first_came : List Deed → ℕ → ℕ → Option ℕ
 first_came [] period k = None
-first_came (deed ∷ deeds) period k = or_else (first_came deeds period k) (came_by deed period k)
+first_came (deed ∷ deeds) period k = if gives_away deed period then None else or_else (first_came deeds period k) (came_by deed period k)
 
--- nothing was done with the period but to put octets of it, and no octets of another period in its slot, as is so for
--- periods that are within 128
+-- since then nothing was done with the period but to put octets of it
 abbrev pub leaves : Deed → ℕ → Bool
-leaves (Put other part octets) period = (other == period) || not (slot_of other == slot_of period)
+leaves (Put other part octets) period = true
 leaves (Take other) period = not (other == period)
 leaves (LeaveOut other) period = not (other == period)
 leaves (LeaveOutBefore first) period = not (is_before period first)
 
 abbrev pub is_waiting : List Deed → ℕ → Bool
 is_waiting [] period = true
-is_waiting (deed ∷ deeds) period = leaves deed period && is_waiting deeds period
+is_waiting (deed ∷ deeds) period = gives_away deed period || (leaves deed period && is_waiting deeds period)

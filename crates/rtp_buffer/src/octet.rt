@@ -45,6 +45,16 @@ impl Octet {
             other => other,
         }
     }
+
+    // How it stands once what waits is left out.
+    fn left_out(self) -> Octet
+        ensures { result ≡ after_leaving_out self }
+    {
+        match self {
+            Octet::Held(_) => Octet::Missing,
+            other => other,
+        }
+    }
 }
 
 // Takes octets of a period from one of its places on, where none came.
@@ -93,9 +103,7 @@ pub(crate) fn leave_out<const N: usize>(row: &mut [Octet; N])
     ensures { (k : ℕ) → slice_index_or row.new k Missing ≡ after_leaving_out (slice_index_or row.old k Missing) }
 {
     for n in 0..N {
-        if let Octet::Held(_) = row[n] {
-            row[n] = Octet::Missing;
-        }
+        row[n] = row[n].left_out();
     }
 }
 

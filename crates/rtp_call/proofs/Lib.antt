@@ -1,2 +1,3 @@
 mod Carried
 mod Moved
+mod Pauses

@@ -266,15 +266,14 @@ impl Call {
     }
 }
 
-/// Processes a period of the two calls of a bridge: both hear before one speaks. Returns of each whether the datagram
-/// to its base station is sent.
+/// Processes a period of the two calls of a bridge: both hear before one speaks. All datagrams are sent.
 pub fn turn_pair(
     one: &mut Call,
     other: &mut Call,
     tick: u32,
     records: &mut Records,
     datagrams: &mut PairDatagrams,
-) -> (bool, bool)
+)
     requires one { IsReady one.old }
     requires other { IsReady other.old }
 
@@ -296,7 +295,6 @@ pub fn turn_pair(
         × RecordsInput other.old other.new tick records.new.other.up records.new.other.pcm }
 
     // Both base stations get the speech that Down carries.
-    ensures sent { result ≡ (true, true) }
     ensures gsm { SpeaksToStation one.old one.new tick records.new.one.down datagrams.new.one.gsm true
         × SpeaksToStation other.old other.new tick records.new.other.down datagrams.new.other.gsm true }
     ensures pcm { SpeaksToExchange one.old one.new tick records.new.one.out datagrams.new.one.pcm
@@ -314,7 +312,6 @@ pub fn turn_pair(
         &mut records.one,
         &mut records.other,
     );
-    let is_one_sent = one.send(&first, &records.one.out, tick, &mut datagrams.one);
-    let is_other_sent = other.send(&second, &records.other.out, tick, &mut datagrams.other);
-    (is_one_sent, is_other_sent)
+    one.send(&first, &records.one.out, tick, &mut datagrams.one);
+    other.send(&second, &records.other.out, tick, &mut datagrams.other);
 }

@@ -7,7 +7,8 @@
 //! loop calls it through `trau_calls`.
 //!
 //! `call` is all of a call. `hearing` says what a period brought from the base station, `playing` takes it and the
-//! exchange's period from the jitter buffers, and `sending` makes the datagrams of a period.
+//! exchange's period from the jitter buffers, and `sending` makes the datagrams of a period. `laws` says which silence
+//! descriptors of a pause are sent.
 //!
 //! Definitions: `specs/Call.antt` (how a call begins, and what a period of it leaves behind), `specs/Hearing.antt`
 //! (what a period brought), `specs/Playing.antt` (which periods are soft), `specs/Sending.antt` (when a frame is sent).
@@ -15,6 +16,7 @@
 
 mod call;
 mod hearing;
+pub mod laws;
 mod playing;
 mod sending;
 

@@ -1,15 +1,18 @@
 //! The periods that are played, and the slips between them.
 
-ghost use Rattle.std.specs.Prelude.{◌≡◌, ◌<◌, true, false};
+ghost use Rattle.std.specs.Prelude.{◌≡◌, true, false, Some};
+ghost use Rattle.trau_params.specs.Fields.{fields_of};
 ghost use Rattle.trau_alaw.specs.Laws.{idle_of};
 ghost use Rattle.rtp_session.specs.Incoming.{IsSound};
 ghost use Rattle.rtp_session.specs.Playing.{IsSlipped, Decides, counts_after, PlaysPeriod};
-ghost use Rattle.rtp_call.specs.Playing.{maximum_at, IsSoftFrame, IsSoftLine};
+ghost use Rattle.rtp_call.specs.Playing.{has_soft_blocks, IsSoftFrame, IsSoftLine};
 
 use fr_sides::{SPEECH, kind_of_octets};
+use gsm_frame::unpack;
 use rtp_buffer::Wish;
 use rtp_session::Incoming;
 use trau_alaw::{Law, expand_all, idle_octet};
+use trau_params::Params;
 
 // Codes of block maxima up to it are soft speech, for slips alone.
 const SOFT_BLOCK: u8 = 4;
@@ -17,24 +20,22 @@ const SOFT_BLOCK: u8 = 4;
 // Samples below it are soft, for slips alone.
 const SOFT_SAMPLE: i16 = 256;
 
-// The code of a block maximum that begins in the last five bits of an octet (RFC 3551, section 4.5.8.1).
-fn maximum(frame: &[u8; 33], at: usize) -> u8
-    requires { at < 32 }
-    ensures { result ≡ maximum_at frame.now at }
+// Whether each block of a frame is soft.
+fn has_soft_blocks(frame: &Params) -> bool
+    ensures { result ≡ has_soft_blocks (Some (fields_of frame.now)) }
 {
-    frame[at] % 32 * 2 + frame[at + 1] / 128
+    frame.xmaxc.iter().all(|maximum| *maximum <= SOFT_BLOCK)
 }
 
-// Whether a frame is soft speech. A silence descriptor isn't: a pause needs it.
-fn is_soft_frame(frame: &[u8; 33]) -> bool
-    ensures { IsSoftFrame frame.now result }
+// Whether octets are a frame of soft speech. A silence descriptor isn't one: a pause needs it.
+fn is_soft_frame(octets: &[u8; 33]) -> bool
+    ensures { IsSoftFrame octets.now result }
 {
-    let kind = kind_of_octets(frame);
-    maximum(frame, 6) <= SOFT_BLOCK
-        && maximum(frame, 13) <= SOFT_BLOCK
-        && maximum(frame, 20) <= SOFT_BLOCK
-        && maximum(frame, 27) <= SOFT_BLOCK
-        && kind == SPEECH
+    let kind = kind_of_octets(octets);
+    match unpack(octets) {
+        None => false,
+        Some(frame) => has_soft_blocks(&frame) && kind == SPEECH,
+    }
 }
 
 // Whether a period of a line is soft.

@@ -9,7 +9,9 @@ use Rattle.rtp_packet.specs.Packet.{packet_of}
 use Rattle.rtp_packet.specs.Reception.{reception_home, counted, missing_of}
 use Rattle.rtp_buffer.specs.declared.buffer.Buffer.{Buffer}
 use Rattle.rtp_buffer.specs.Watch.{on, back}
+use Rattle.rtp_buffer.specs.History.{Deed, Stands}
 use Rattle.rtp_stream.specs.declared.place.Place.{Place}
+use Rattle.rtp_stream.specs.Places.{period_samples}
 use Rattle.rtp_stream.specs.declared.source.Sources.{Sources}
 use Rattle.rtp_stream.specs.declared.source.Verdict.{Verdict}
 use Rattle.rtp_stream.specs.declared.track.Track.{Track}
@@ -19,7 +21,7 @@ use Rattle.rtp_stream.specs.declared.stream.Stream.{Stream}
 use Rattle.rtp_stream.specs.declared.stream.Arrival.{Arrival}
 use Rattle.rtp_stream.specs.declared.stream.Arrival.TheVariants.{At, NewSource, Jump, OnProbation as WaitsOnProbation, GivenUp as WasGivenUp, Far as IsFar}
 use Rattle.rtp_stream.specs.Stream.{judged_in, placed_in, arrival_of, reception_after, pace_after, BeginsAt, track_home}
-use Rattle.rtp_stream.specs.Payload.{IsLaid, IsLaidEverywhere, period_outcome, is_taken, is_late_one, is_doubled, periods_that, newest_after, most_periods, pace_laid}
+use Rattle.rtp_stream.specs.Payload.{IsLaid, IsLaidEverywhere, period_outcome, is_taken, is_late_one, is_doubled, periods_that, newest_after, most_periods, with_periods, pace_laid}
 use Rattle.rtp_session.specs.declared.counts.Counts.{Counts}
 use Rattle.rtp_session.specs.declared.incoming.Incoming.{Incoming}
 use Rattle.rtp_session.specs.declared.incoming.Outcome.{Outcome}
@@ -29,18 +31,22 @@ use Rattle.rtp_session.specs.Incoming.{KeepsSettings}
 
 -- ---- the outcome
 
+-- the periods of the longest payload, a second
+abbrev pub longest_payload : ℕ
+longest_payload = 50
+
 -- why a packet with a payload of so many octets is never played, if there is a reason
 abbrev pub refused_by : {N : ℕ} → Incoming N → ℕ → ℕ → Option Outcome
 refused_by {N} incoming payload_type size =
     if not (payload_type == incoming.payload_type) then Some OtherType
     else if size == 0 then Some Empty
     else if incoming.is_framed && not (size % N == 0) then Some OddSize
-    else if nat_lt (50 * N) size then Some TooLong
+    else if nat_lt (longest_payload * N) size then Some TooLong
     else None
 
--- the samples of a payload: a period of N octets has 160
+-- the samples of a payload, of which a period has so many octets
 abbrev pub samples_of : ℕ → ℕ → ℕ
-samples_of size octets = octets * 160 / size
+samples_of size octets = octets * period_samples / size
 
 -- what a packet is to the stream: by its source, and if that is heard by its place
 abbrev pub arrival_by : Verdict → Placed → Arrival
@@ -160,6 +166,7 @@ part_of size framed IsFar = 0
 pub record LaysOver {N : ℕ} (old new : Buffer N) (tick first part : ℕ) (payload : List ℕ) (watched : Bool) : Type 0 where
   pub laid : IsLaid old.pace tick old.store.slots new.store.slots first part payload
   pub everywhere : IsLaidEverywhere old new tick first part payload
+  pub stands : (deeds : List Deed) → Stands deeds old.store.slots → Stands (with_periods N old.pace tick first part payload most_periods deeds) new.store.slots
   pub newest : new.newest ≡ newest_after (λ n. is_taken (period_outcome old tick first part (length payload) n)) first old.newest most_periods
   pub pace : new.pace ≡ pace_laid old tick first part (length payload) watched
 

@@ -2,6 +2,7 @@
 use Rattle.std.specs.Prelude.{◌≡◌, ◌<◌, ℕ, ◌+◌, ◌*◌, ◌%◌, ◌^◌, Bool, true, false, not, ◌&&◌, Ok, List, length, drop}
 use Rattle.rtp_packet.specs.declared.header.Header.{Header}
 use Rattle.rtp_packet.specs.Packet.{packet_of, is_control, number_of_two, number_of_four}
+use Rattle.rtp_stream.specs.Places.{period_samples}
 use Rattle.rtp_session.specs.declared.outgoing.Outgoing.{Outgoing}
 
 -- before the first packet: number, time stamp and source are of ten random octets
@@ -23,7 +24,7 @@ header_at outgoing tick speech = record {
   marker = outgoing.after_gap && speech;
   payload_type = outgoing.payload_type;
   sequence_number = outgoing.number;
-  timestamp = (outgoing.timestamp + tick * 160 % 2 ^ 32) % 2 ^ 32;
+  timestamp = (outgoing.timestamp + tick * period_samples % 2 ^ 32) % 2 ^ 32;
   source = outgoing.source;
 }
 
@@ -42,7 +43,7 @@ left_out outgoing = record outgoing { after_gap = true }
 
 -- **Time is given up**: stamps go on as if its periods had passed.
 abbrev pub gone_on : ℕ → Outgoing → Outgoing
-gone_on periods outgoing = record outgoing { timestamp = (outgoing.timestamp + periods * 160 % 2 ^ 32) % 2 ^ 32; after_gap = true }
+gone_on periods outgoing = record outgoing { timestamp = (outgoing.timestamp + periods * period_samples % 2 ^ 32) % 2 ^ 32; after_gap = true }
 
 -- its payload type has seven bits, and isn't one that RTCP on the same port seems to have
 pub record IsMedia (payload_type : ℕ) : Type 0 where

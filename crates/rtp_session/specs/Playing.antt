@@ -1,11 +1,12 @@
 -- What a stream plays in a period (this project's profile).
-use Rattle.std.specs.Prelude.{if◌then◌else◌, ◌≡◌, ◌≢◌, ◌<◌, ℕ, Bool, true, false, Option, None, IfSome, List, length, slice_index}
+use Rattle.std.specs.Prelude.{if◌then◌else◌, ◌≡◌, ◌≢◌, ◌<◌, ◌⊎◌, ◌∷◌, ℕ, Bool, true, false, Option, None, IfSome, List, length, slice_index, unwrap_or}
 use Rattle.rtp_buffer.specs.declared.buffer.Buffer.{Buffer}
 use Rattle.rtp_buffer.specs.declared.pace.Owed.TheVariants.{Nothing, On, Back}
 use Rattle.rtp_buffer.specs.declared.pace.Wish.{Wish}
 use Rattle.rtp_buffer.specs.declared.pace.Wish.TheVariants.{Not, IfSoft, Now}
 use Rattle.rtp_buffer.specs.Octets.{heard, after_taking, after_leaving_out}
 use Rattle.rtp_buffer.specs.Store.{place, is_before}
+use Rattle.rtp_buffer.specs.History.{Deed, Take, LeaveOut, LeaveOutBefore, Stands, first_came, is_waiting}
 use Rattle.rtp_buffer.specs.Pace.{wished, is_owed, slipped, given_up, due}
 use Rattle.rtp_buffer.specs.Buffer.{period_at, judged, SaysWaits, SaysKnown, NothingWaits}
 use Rattle.rtp_stream.specs.declared.stream.Stream.{Stream}
@@ -13,6 +14,10 @@ use Rattle.rtp_stream.specs.Stream.{track_given_up}
 use Rattle.rtp_session.specs.declared.counts.Counts.{Counts}
 use Rattle.rtp_session.specs.declared.incoming.Incoming.{Incoming}
 use Rattle.rtp_session.specs.Counts.{with_slip}
+
+-- of all that was done with a buffer's store, this deed is new, or nothing is
+abbrev pub Does : {N : ℕ} → Deed → Buffer N → Buffer N → Type 0
+Does deed old new = (deeds : List Deed) → Stands deeds old.store.slots → Stands deeds new.store.slots ⊎ Stands (deed ∷ deeds) new.store.slots
 
 -- **Before a period**: if no slip is owed, waits are judged once enough packets came, and what is past is left out;
 -- else it is decided when it is made.
@@ -26,6 +31,7 @@ pub record IsPrepared {N : ℕ} (old new : Buffer N) (tick : ℕ) (wish : Wish) 
       (if is_before period (period_at old.pace tick) then after_leaving_out (place old.store.slots period k) else place old.store.slots period k)
   pub newest : new.newest ≡ old.newest
   pub ahead : (period k : ℕ) → is_before period (period_at old.pace tick) ≡ false → place new.store.slots period k ≡ place old.store.slots period k
+  pub does : Does (LeaveOutBefore (period_at old.pace tick)) old new
 
 -- **A slip**: this tick's period is left out, or waits a tick longer, and the one before it has another turn. What was
 -- played of that one isn't played again: filler is heard in its place.
@@ -37,11 +43,16 @@ pub record IsSlipped {N : ℕ} (old new : Buffer N) (tick : ℕ) : Type 0 where
       place new.store.slots (period_at old.pace tick) k ≡ after_leaving_out (place old.store.slots (period_at old.pace tick) k)
   pub back : (count : ℕ) → old.pace.owed ≡ Back count → new.store ≡ old.store
   pub others : (other k : ℕ) → other ≢ period_at old.pace tick → place new.store.slots other k ≡ place old.store.slots other k
+  pub does : Does (LeaveOut (period_at old.pace tick)) old new
 
 -- the octets that are heard at a tick, `filler` for those that didn't come
 abbrev pub AreHeard : {N : ℕ} → Buffer N → ℕ → ℕ → List ℕ → Type 0
 AreHeard {N} buffer tick filler octets = (length octets ≡ N) × ((k : ℕ) → k < N →
     slice_index octets k ≡ heard (place buffer.store.slots (period_at buffer.pace tick) k) filler)
+
+-- **In time**: at each place the first octet that came for it since another period had its slot, or the filler.
+abbrev pub AreFirst : {N : ℕ} → List Deed → Buffer N → ℕ → ℕ → List ℕ → Type 0
+AreFirst {N} deeds buffer tick filler octets = (k : ℕ) → k < N → slice_index octets k ≡ unwrap_or (first_came deeds (period_at buffer.pace tick) k) filler
 
 -- **A period is played once**: what waits of it is taken, and nothing else changes. If nothing of it waits, there is
 -- none.
@@ -53,6 +64,9 @@ pub record IsTaken {N : ℕ} (old new : Buffer N) (tick filler : ℕ) (came : Op
   pub newest : new.newest ≡ old.newest
   pub own : (k : ℕ) → place new.store.slots (period_at old.pace tick) k ≡ after_taking (place old.store.slots (period_at old.pace tick) k)
   pub others : (other k : ℕ) → other ≢ period_at old.pace tick → place new.store.slots other k ≡ place old.store.slots other k
+  pub does : Does (Take (period_at old.pace tick)) old new
+  pub in_time : (deeds : List Deed) → Stands deeds old.store.slots → is_waiting deeds (period_at old.pace tick) ≡ true →
+      IfSome came (λ octets. AreFirst deeds old tick filler octets)
 
 -- whether an owed slip is made: now, or in soft speech, which `IsSoft` tells of the octets that would be heard
 pub record Decides {N : ℕ} (IsSoft : List ℕ → Bool → Type 0) (buffer : Buffer N) (tick filler : ℕ) (wish : Wish) (slips : Bool) : Type 0 where
@@ -92,4 +106,5 @@ pub record GivesUp {N : ℕ} (old new : Stream N) (periods tick : ℕ) : Type 0 
       else place old.buffer.store.slots period k)
   pub ahead : (period k : ℕ) → is_before period (period_at new.buffer.pace tick) ≡ false →
       place new.buffer.store.slots period k ≡ place old.buffer.store.slots period k
+  pub stands : (deeds : List Deed) → Stands deeds old.buffer.store.slots → Stands (LeaveOutBefore (period_at new.buffer.pace tick) ∷ deeds) new.buffer.store.slots
   pub others : new ≡ record old { track = new.track; buffer = new.buffer }

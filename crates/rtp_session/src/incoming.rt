@@ -1,10 +1,11 @@
 //! The stream that comes into a session, from datagrams that nobody vouches for.
 
 ghost use Rattle.std.specs.Prelude.{◌≡◌, ◌≢◌, ◌<◌, ◌≤◌, ◌*◌, ◌==◌, if◌then◌else◌, ℕ, true, false, length};
+ghost use Rattle.rtp_stream.specs.Places.{period_samples};
 ghost use Rattle.rtp_stream.specs.Stream.{is_taken, judged_in};
 ghost use Rattle.rtp_session.specs.Counts.{with_outcome, with_slip};
 ghost use Rattle.rtp_session.specs.Incoming.{IsHeard, IsAdmitted, IsUntouched, KeepsSettings, PlaysTheSame, IsSound, BeginsSession};
-ghost use Rattle.rtp_session.specs.Datagram.{refused_by, samples_of, arrival_in, outcome_by, outcome_unless, packet_outcome, unplayed_by, received_by, received_unless, sources_unless, track_by, track_unless, Arrives, octet_of, LaysOver, LaysPayload, with_laid, placed_counts, sourced_counts, TakesDatagram};
+ghost use Rattle.rtp_session.specs.Datagram.{longest_payload, refused_by, samples_of, arrival_in, outcome_by, outcome_unless, packet_outcome, unplayed_by, received_by, received_unless, sources_unless, track_by, track_unless, Arrives, octet_of, LaysOver, LaysPayload, with_laid, placed_counts, sourced_counts, TakesDatagram};
 ghost use Rattle.rtp_session.specs.Playing.{IsPrepared, IsSlipped, AreHeard, IsTaken, GivesUp};
 
 use crate::counts::Counts;
@@ -120,7 +121,7 @@ impl<const N: usize> Incoming<N> {
         ensures value { result ≡ refused_by self.now payload_type size }
         ensures not_taken { result ≢ Some Outcome.Taken }
         ensures payload_type { result ≡ None → payload_type ≡ self.now.payload_type }
-        ensures size { result ≡ None → size ≤ 50 * N }
+        ensures size { result ≡ None → size ≤ longest_payload * N }
     {
         if payload_type != self.payload_type {
             Some(Outcome::OtherType)
@@ -171,7 +172,7 @@ impl<const N: usize> Incoming<N> {
         tick: u32,
         behind: u32,
     ) -> Outcome
-        requires size { length payload.now ≤ 50 * N }
+        requires size { length payload.now ≤ longest_payload * N }
         requires period { 0 < N }
         requires sound { IsSound self.old.stream }
         ensures taken { result ≡ Outcome.Taken }
@@ -244,9 +245,9 @@ impl<const N: usize> Incoming<N> {
 
     // A packet of the payload type that is played.
     fn take_packet(&mut self, header: &Header, payload: &[u8], tick: u32, behind: u32) -> Outcome
-        requires size { length payload.now ≤ 50 * N }
+        requires size { length payload.now ≤ longest_payload * N }
         requires period { 0 < N }
-        requires most { N ≤ 160 }
+        requires most { N ≤ period_samples }
         requires sound { IsSound self.old.stream }
         ensures only { (IsHeard self.old.stream header.now tick → ⊥) → IsUntouched self.old self.new }
         ensures refused { result ≢ Outcome.Taken → PlaysTheSame self.old.stream self.new.stream }
@@ -287,7 +288,7 @@ impl<const N: usize> Incoming<N> {
     // A packet with this payload.
     fn judge_packet(&mut self, header: &Header, payload: &[u8], tick: u32, behind: u32) -> Outcome
         requires period { 0 < N }
-        requires most { N ≤ 160 }
+        requires most { N ≤ period_samples }
         requires sound { IsSound self.old.stream }
         ensures only { (header.now.payload_type ≡ self.old.payload_type → IsHeard self.old.stream header.now tick → ⊥) → IsUntouched self.old self.new }
         ensures refused { result ≢ Outcome.Taken → PlaysTheSame self.old.stream self.new.stream }
@@ -315,7 +316,7 @@ impl<const N: usize> Incoming<N> {
     /// Takes a datagram that is read at a tick, which is late by `behind` periods.
     pub fn packet(&mut self, datagram: &[u8], tick: u32, behind: u32) -> Outcome
         requires period { 0 < N }
-        requires most { N ≤ 160 }
+        requires most { N ≤ period_samples }
         requires sound { IsSound self.old.stream }
 
         // What becomes of it, by its octets, the stream and the tick; a payload that is taken is laid over the periods

@@ -2,6 +2,7 @@
 
 ghost use Rattle.std.specs.Prelude.{◌≡◌, ◌<◌, ◌≤◌, ◌+◌, ◌*◌, ◌%◌, ◌^◌, true, false, length};
 ghost use Rattle.rtp_packet.specs.Packet.{number_of_two, number_of_four};
+ghost use Rattle.rtp_stream.specs.Places.{period_samples};
 ghost use Rattle.rtp_session.specs.Outgoing.{outgoing_home, header_at, sent, left_out, gone_on, IsMedia, Carries};
 
 use rtp_packet::{Header, written_is_read};
@@ -92,7 +93,7 @@ impl Outgoing {
     /// Writes the datagram for the period at a tick.
     pub fn packet(&mut self, tick: u32, payload: &[u8], is_speech: bool, datagram: &mut [u8])
         requires media { IsMedia self.old.payload_type }
-        requires period { length payload.now ≤ 160 }
+        requires period { length payload.now ≤ period_samples }
         requires size { length datagram.old ≡ 12 + length payload.now }
         ensures carries { Carries datagram.new (header_at self.old tick is_speech) payload.now }
         ensures value { self.new ≡ sent self.old (length payload.now) is_speech }

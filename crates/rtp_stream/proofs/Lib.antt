@@ -1,4 +1,3 @@
 mod Pieces
-mod Distance
 mod Counted
 mod Past

@@ -56,15 +56,6 @@ piece_comes octets m size part at start piece k p l a s e = by_sides (nat_lt k s
         ∙ ap (λ (x : ℕ). Some x) (inside octets at piece (k - start) here room ∙ ap (λ (i : ℕ). slice_index octets i) place)
         ∙ sym (came_some octets part (length octets) (m + k) (omega (arith, b, w, l, p, a, s, e)) (omega (arith, b, w, l, p, a, s, e)))
 
--- no octet comes for a place of a period for which nothing is left
-pub none_comes : (octets : List ℕ) (m size part at start k : ℕ) → part < size → k < size → at ≡ octets_before m part (length octets) →
-    ((m ≡ 0) × (start ≡ part)) ⊎ ((size ≤ m) × (start ≡ 0)) → min (size - start) (length octets - at) ≡ 0 → came part octets (length octets) (m + k) ≡ None
-none_comes octets m size part at start k p l a s e = by_side (nat_lt (m + k) part) refl
-  where
-    by_side : (b : Bool) → nat_lt (m + k) part ≡ b → came part octets (length octets) (m + k) ≡ None
-    by_side true before = came_before octets part (length octets) (m + k) (grind (arith, before))
-    by_side false before = came_after octets part (length octets) (m + k) (let b : part ≤ m + k = grind (arith, before) in omega (arith, b, p, l, a, s, e))
-
 -- the octets of a piece
 pub piece_length : (octets : List ℕ) (at piece : ℕ) → at + piece ≤ length octets → length (slice_range octets at (at + piece)) ≡ piece
 piece_length octets at piece r =
@@ -127,17 +118,6 @@ own_piece outcome wait octets m size part at start piece old new p a s e h k l =
     ∙ ap (λ (more : Option ℕ). with_payload wait (old k) more)
     (ap (λ (n : ℕ). came start (slice_range octets at (at + piece)) n k) (piece_length octets at piece (piece_inside m size part at start piece (length octets) p a s e))
     ∙ piece_comes octets m size part at start piece k p l a s e)
-
--- one without
-pub no_piece : (wait : ℕ) (octets : List ℕ) (m size part at start : ℕ) (octet : Octet) (k : ℕ) → part < size → k < size →
-    at ≡ octets_before m part (length octets) → ((m ≡ 0) × (start ≡ part)) ⊎ ((size ≤ m) × (start ≡ 0)) → min (size - start) (length octets - at) ≡ 0 →
-    octet ≡ with_payload wait octet (came part octets (length octets) (m + k))
-no_piece wait octets m size part at start octet k p l a s e =
-    sym (ap (with_payload wait octet) (none_comes octets m size part at start k p l a s e) ∙ by_side (is_late wait))
-  where
-    by_side : (b : Bool) → (if b then octet else with_octet octet None) ≡ octet
-    by_side true = refl
-    by_side false = with_none octet
 
 -- ---- periods and slots
 

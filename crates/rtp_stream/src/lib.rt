@@ -14,14 +14,12 @@
 //! Definitions: `specs/Sources.antt`, `specs/Places.antt`, `specs/Stream.antt`, `specs/Payload.antt`.
 #![tactic(auto)]
 
-mod laws;
 mod payload;
 mod place;
 mod source;
 mod stream;
 mod track;
 
-pub use laws::there_and_back;
 pub use payload::{Laid, lay};
 pub use place::{Newest, PERIOD_SAMPLES, Place};
 pub use source::{Candidate, Sources, Verdict};

@@ -11,8 +11,8 @@ returns-clause-replay c number other_number past other_past level other_level dt
     (stood other_number c.args.other.now.law c.input-to_other.result.law other_past c.args.other.now.coders c.input-to_other.new.self.coders
     c.input-to_other.ensures.law (ap (λ (x : Call). x.coders) c.input-to_other.ensures.others) other_stands)
     can other_can in (
-      moved number c.args.one.now.law c.input-to_one.result.law _ c.bridged.new.one c.send-is_one_sent.new.self.coders _ _ c.input-to_one.ensures.law
-          (ap (λ (x : Call). x.coders) c.send-is_one_sent.ensures.others) both.0,
-      moved other_number c.args.other.now.law c.input-to_other.result.law _ c.bridged.new.other c.send-is_other_sent.new.self.coders _ _
-          c.input-to_other.ensures.law (ap (λ (x : Call). x.coders) c.send-is_other_sent.ensures.others) both.1,
+      moved number c.args.one.now.law c.input-to_one.result.law _ c.bridged.new.one c.send.new.self.coders _ _ c.input-to_one.ensures.law
+          (ap (λ (x : Call). x.coders) c.send.ensures.others) both.0,
+      moved other_number c.args.other.now.law c.input-to_other.result.law _ c.bridged.new.other c.send-2.new.self.coders _ _
+          c.input-to_other.ensures.law (ap (λ (x : Call). x.coders) c.send-2.ensures.others) both.1,
     )

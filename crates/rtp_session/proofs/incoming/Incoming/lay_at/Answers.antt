@@ -11,6 +11,7 @@ returns-clause-laid g c =
     (record {
       laid = c.lay-laid.ensures.laid;
       everywhere = c.lay-laid.ensures.everywhere;
+      stands = c.lay-laid.ensures.stands;
       newest = c.lay-laid.ensures.newest;
       pace = c.lay-laid.ensures.told;
     })
