@@ -1,0 +1,5 @@
+mod Periods
+mod Recorded
+mod Lines
+mod Runs
+mod Worked
