@@ -20,77 +20,85 @@ from trau.rules.g711 import Law
 
 PROGRAM = os.environ.get("TRAU_PROGRAM", "")
 
+PERIOD = "a period (0 to 4294967294) is expected"
+CALL_OF_ORDER = "a call (1 to 4096) is expected"
+VERB = "open, close, bridge, unbridge, level or dtx is expected"
+LAW = "mulaw, or nothing for A-law, is expected"
+LEVEL = "a level (0 to 32767) is expected"
+MODE = "on, off or uplink is expected"
+END = "the line's end is expected"
+SPACES = "; one space separates words"
+ZEROS = "; numbers have no leading zeros"
+LF = "; lines end with LF alone"
+STRIPS = "orders.py strip leaves out comments and empty lines"
+
+# After `0 open 2`.
 FAULTS = (
-    (b"0 open 1\r", "a carriage return at its end"),
-    (b"0  open 1", "two spaces"),
-    (b" 0 open 1", "a space at its start"),
-    (b"0 open 1 ", "a space at its end"),
-    (b"0\topen 1", "a tab; one space stands between words"),
-    (b"\xef\xbb\xbf0 open 1", "a byte order mark at its start"),
-    (b"0 open 1\xc2\xa0", "octet 0xC2 at place 9 is no letter, digit or space"),
-    (b"", "an empty line"),
-    (b" ", "a space at its start; a space at its end"),
-    (b"0 open 4097", "call 4097: 1 to 4,096"),
-    (b"0 open 0", "call 0: 1 to 4,096"),
-    (b"0 open 01", "call 01: a leading zero"),
-    (b"0 open x", "call 'x': decimal digits alone make a number"),
-    (b"0 open +1", "call '+1': decimal digits alone make a number"),
-    (b"0 open 99999999999999999999", "call 99999999999999999999: 1 to 4,096"),
-    (b"00 open 1", "stamp 00: a leading zero"),
-    (b"4294967295 open 1", "stamp 4294967295: 0 to 4,294,967,294"),
-    (b"open 1", "stamp 'open'"),
-    (b"0", "no order after the stamp"),
-    (b"0 opne 1", "no order 'opne'; the orders are open, close, bridge, unbridge, level, dtx"),
-    (b"0 OPEN 1", "no order 'OPEN'; write open"),
-    (b"# calls", "a comment; orders.py strip leaves out comments and empty lines"),
-    (b"0 open", "too few words: S open C or S open C mulaw"),
-    (b"0 open 1 alaw", "'alaw': mulaw, or nothing for A-law"),
-    (b"0 open 1 mulaw 2", "too many words: S open C or S open C mulaw"),
-    (b"0 close 1 mulaw", "too many words: S close C"),
-    (b"0 bridge 1", "too few words: S bridge C D"),
-    (b"0 bridge 1 2 3", "too many words: S bridge C D"),
-    (b"0 level 1 32768", "level 32768: 0 to 32,767"),
-    (b"0 dtx 1 On", "'On': on, off or uplink"),
-    (b"0 dtx 1", "too few words: S dtx C on|off|uplink"),
+    (b"0 open 1\r", f'"1\\x0d" where {CALL_OF_ORDER}{LF}'),
+    (b"0  open 1", f'"" where {VERB}{SPACES}'),
+    (b" 0 open 1", f'"" where {PERIOD}{SPACES}'),
+    (b"0 open 1 ", f'"" where {LAW}{SPACES}'),
+    (b"0\topen 1", f'"0\\x09open" where {PERIOD}{ZEROS}'),
+    (b"\xef\xbb\xbf0 open 1", f'"\\xef\\xbb\\xbf0" where {PERIOD}'),
+    (b"0 open 1\xc2\xa0", f'"1\\xc2\\xa0" where {CALL_OF_ORDER}'),
+    (b"", f"an empty line; {STRIPS}"),
+    (b" ", f"an empty line; {STRIPS}"),
+    (b"0 open 4097", f'"4097" where {CALL_OF_ORDER}'),
+    (b"0 open 0", f'"0" where {CALL_OF_ORDER}'),
+    (b"0 open 01", f'"01" where {CALL_OF_ORDER}{ZEROS}'),
+    (b"0 open x", f'"x" where {CALL_OF_ORDER}'),
+    (b"0 open +1", f'"+1" where {CALL_OF_ORDER}'),
+    (b"0 open 99999999999999999999", f'"99999999999999999999" where {CALL_OF_ORDER}'),
+    (b"00 open 1", f'"00" where {PERIOD}{ZEROS}'),
+    (b"4294967295 open 1", f'"4294967295" where {PERIOD}'),
+    (b"open 1", f'"open" where {PERIOD}'),
+    (b"0", f"the line ends where {VERB}"),
+    (b"0 opne 1", f'"opne" where {VERB}'),
+    (b"0 OPEN 1", f'"OPEN" where {VERB}'),
+    (b"# calls", f"a comment; {STRIPS}"),
+    (b"0 open", f"the line ends where {CALL_OF_ORDER}"),
+    (b"0 open 1 alaw", f'"alaw" where {LAW}'),
+    (b"0 open 1 mulaw 2", f'"2" where {END}'),
+    (b"0 close 1 mulaw", f'"mulaw" where {END}'),
+    (b"0 bridge 1", f"the line ends where {CALL_OF_ORDER}"),
+    (b"0 bridge 1 2 3", f'"3" where {END}'),
+    (b"0 level 1 32768", f'"32768" where {LEVEL}'),
+    (b"0 dtx 1 On", f'"On" where {MODE}'),
+    (b"0 dtx 1", f"the line ends where {MODE}"),
 )
 
 CALL = b"call 3 from 20 out 5 down 7\n"
 MISSING = "where the line orders is due, which ends a mark, "
+P_OF_MARK = "P (1 to 4294967295) is expected"
+CALL_OF_MARK = "a mark's line of a call is call C from S out X down Y"
 MARK_FAULTS = (
     (1, b"", "a mark's first line is save P"),
     (1, b"0 open 1\n", "a mark's first line is save P"),
     (1, b"orders\n0 open 1\n", "a mark's first line is save P"),
-    (1, b"save 060\norders\n", "period 060: a leading zero"),
-    (1, b"save 0\norders\n", "period 0: 1 to 4,294,967,295"),
-    (1, b"save  60\norders\n", "two spaces"),
+    (1, b"save 060\norders\n", f'"060" where {P_OF_MARK}{ZEROS}'),
+    (1, b"save 60\r\norders\n", f'"60\\x0d" where {P_OF_MARK}{LF}'),
+    (1, b"save 0\norders\n", f'"0" where {P_OF_MARK}'),
+    (1, b"save  60\norders\n", "a mark's first line is save P"),
     (1, b"save 60", "no line feed at its end"),
     (2, b"save 60\n", MISSING + "the text ends"),
     (2, b"save 60\n0 open 1\n", MISSING + "there is '0 open 1'"),
     (2, b"save 60\n\norders\n", MISSING + "there is an empty line"),
     (3, b"save 60\n" + CALL, MISSING + "the text ends"),
     (2, b"save 60\norders", "no line feed at its end"),
-    (2, b"save 60\norders \n", "a space at its end"),
+    (2, b"save 60\norders \n", MISSING + "there is 'orders '"),
     (2, b"save 60\n" + CALL[:-1], "no line feed at its end"),
-    (2, b"save 20\n" + CALL + b"orders\n", "S 20: 0 to 19"),
-    (
-        2,
-        b"save 60\ncall 3 from 20\norders\n",
-        "a mark's line of a call is call C from S out X down Y",
-    ),
-    (
-        2,
-        b"save 60\ncall 3 form 20 out 5 down 7\norders\n",
-        "a mark's line of a call is call C from S out X down Y",
-    ),
+    (2, b"save 20\n" + CALL + b"orders\n", '"20" where S (0 to 19) is expected'),
+    (2, b"save 60\ncall 3 from 20\norders\n", CALL_OF_MARK),
+    (2, b"save 60\ncall 3 form 20 out 5 down 7\norders\n", CALL_OF_MARK),
     (
         2,
         b"save 60\ncall 3 from 20 out 4294967296 down 7\norders\n",
-        "X 4294967296: 0 to 4,294,967,295",
+        '"4294967296" where X (0 to 4294967295) is expected',
     ),
     (
         2,
         b"save 60\ncall 3 from 20 out 5 down -7\norders\n",
-        "Y '-7': decimal digits alone make a number",
+        '"-7" where Y (0 to 4294967295) is expected',
     ),
     (
         3,
@@ -144,26 +152,37 @@ class Orders(InFolder):
     def test_several_faults(self):
         status, said = self.check(b"5 open 1\n4 open  4097\r\n\n3 open 2\n6 open 3\n")
         self.assertEqual(status, 1)
+        least = "a period (5, that of the order before, to 4294967294) is expected"
         self.assertEqual(
             said,
             [
-                "line 2: a carriage return at its end; two spaces; call 4097: 1 to 4,096; stamp 4 below that of line 1, 5",
-                "line 3: an empty line",
-                "line 4: stamp 3 below that of line 1, 5",
+                f'line 2: "4" where {least}',
+                f"line 3: an empty line; {STRIPS}",
+                f'line 4: "3" where {least}',
                 "orders 5 bad 3 warnings 0",
+            ],
+        )
+
+    def test_stamps_count_where_other_words_are_bad(self):
+        said = self.check(b"5 opne 1\n4 open 2\n")[1]
+        self.assertEqual(
+            said[:2],
+            [
+                f'line 1: "opne" where {VERB}',
+                'line 2: "4" where a period (5, that of the order before, to 4294967294) is expected',
             ],
         )
 
     def test_words_as_they_are_printed(self):
         for word, wanted in (
-            ("öffnen".encode(), "öffnen"),
+            ("öffnen".encode(), "\\xc3\\xb6ffnen"),
             (b"\xf6ffnen", "\\xf6ffnen"),
             (b"open\0\x1b[2J", "open\\x00\\x1b[2J"),
             (50 * b"x", f"{40 * 'x'}.."),
         ):
             status, said = self.check(b"0 " + word + b" 1\n")
             self.assertEqual((status, len(said)), (1, 2))
-            self.assertIn(f"no order '{wanted}'; ", said[0])
+            self.assertEqual(said[0], f'line 1: "{wanted}" where {VERB}')
 
     def test_what_is_no_text(self):
         up = (EXAMPLES / "7.up").read_bytes()
@@ -401,7 +420,8 @@ class Orders(InFolder):
                 self.assertEqual((status, found[0]), (1, f"mark line {line}: {said}"))
         status, found = self.check(b"save 60\norders\n0 open 01\n", "--mark")
         self.assertEqual(
-            (status, found[:2]), (1, ["mark lines 2 bad 0", "line 1: call 01: a leading zero"])
+            (status, found[:2]),
+            (1, ["mark lines 2 bad 0", f'line 1: "01" where {CALL_OF_ORDER}{ZEROS}']),
         )
         long = b"save 60\norders\n" + b"0 level 1 32767\n" * 65536 + b" " * 300000
         status, found = self.check(long, "--mark")
@@ -461,7 +481,8 @@ class Orders(InFolder):
         ended = subprocess.run([tool, "check", "-"], input=b"0 open 1\r\n", capture_output=True)
         self.assertEqual((ended.returncode, ended.stderr), (1, b""))
         self.assertEqual(
-            ended.stdout, b"line 1: a carriage return at its end\norders 1 bad 1 warnings 0\n"
+            ended.stdout.decode(),
+            f'line 1: "1\\x0d" where {CALL_OF_ORDER}{LF}\norders 1 bad 1 warnings 0\n',
         )
         for words in ([], ["check"], ["strip"]):
             ended = subprocess.run([tool, *words, "--help"], capture_output=True)

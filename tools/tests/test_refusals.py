@@ -14,6 +14,8 @@ CALL = "a call (1 to 4096)"
 VERB = "open, close, bridge, unbridge, level or dtx"
 SPACES = "; one space separates words"
 ZEROS = "; numbers have no leading zeros"
+LF = "; lines end with LF alone"
+LEVEL = "a level (0 to 32767)"
 WANTED = "W (0 to 316, a multiple of 4)"
 
 WORDS = {
@@ -47,7 +49,12 @@ ORDERS = (
     (b"0 open 1\n5 open  2\nx", 2, f'"" where {CALL} is expected{SPACES}'),
     (b"\n", 1, f"the line ends where {PERIOD} is expected"),
     (b"# orders", 1, f'"#" where {PERIOD} is expected; orders have no comments'),
-    (b"0\topen 1", 1, f'"0\\x09open" where {PERIOD} is expected{ZEROS}'),
+    (b"0\topen 1", 1, f'"0\\x09open" where {PERIOD} is expected'),
+    # The hint is the first that fits: an empty word, a comment, CR, leading zeros.
+    (b"0 level 1 0\r\n", 1, f'"0\\x0d" where {LEVEL} is expected{LF}'),
+    (b"0 bridge 1 02\r\n", 1, f'"02\\x0d" where {CALL} is expected{LF}'),
+    (b"#0\r\n", 1, f'"#0\\x0d" where {PERIOD} is expected; orders have no comments'),
+    (b"\r\n", 1, f'"\\x0d" where {PERIOD} is expected{LF}'),
     (
         b"5 open 1\n4 open 2",
         2,

@@ -788,10 +788,10 @@ class Help(Started):
         for command in trau_words.COMMANDS:
             for words in (["help", command.name], [command.name, "--help"], [command.name, "-h"]):
                 self.assertEqual(self.trau(*words), (0, trau_words.page(command), ""), words)
-        # Of a name that is no command, none is a pattern: the program gets the words.
+        # Of a name that is no command, none is a pattern: the program gets it, and says so.
         self.built()
         for name in ("x", ".*", "r.n", "[", "run\nsave", "run/"):
-            self.assertEqual(self.trau("help", name), (0, f"the program: help {name}\n", ""), name)
+            self.assertEqual(self.trau("help", name), (0, f"the program: {name}\n", ""), name)
 
     def test_where_the_program_is_built_too(self):
         self.built()
@@ -847,7 +847,7 @@ class GivenWords(Started):
 
     def test_wrong_words(self):
         self.built()
-        for words in ("run --workers 65", "run orders.txt", "relya 7", "relay", "help relya", "-x"):
+        for words in ("run --workers 65", "run orders.txt", "relya 7", "relay", "-x"):
             self.assertEqual(self.trau(*words.split()), (0, f"the program: {words}\n", ""), words)
 
     def test_wrong_orders(self):

@@ -11,7 +11,6 @@ from support import TOOLS, TOP, InFolder
 from trau.rules.orders import FORMS
 from trau.packing import trau_words
 from trau.rules import profile
-from trau.command_line.word_faults import grouped
 
 DOCS = TOP / "docs"
 
@@ -52,7 +51,7 @@ class Documents(unittest.TestCase):
                 )
             }
             wanted = {
-                option.name: [grouped(number) for number in option.values[:3]] for option in options
+                option.name: [f"{number:,}" for number in option.values[:3]] for option in options
             }
             self.assertEqual(found, wanted, command)
 

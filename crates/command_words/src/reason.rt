@@ -85,7 +85,7 @@ impl Display for Expected<'_> {
 // What most often makes a number a wrong one.
 fn hint(word: &str) -> &'static str {
     match word.as_bytes() {
-        [b'0', _, ..] => "; numbers have no leading zeros",
+        [b'0', b'0'..=b'9', ..] => "; numbers have no leading zeros",
         _ => "",
     }
 }

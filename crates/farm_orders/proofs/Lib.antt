@@ -1,2 +1,3 @@
--- Lemmas on reading the desk.
+-- Lemmas on reading the desk, and on the first bad line after a mark.
 mod Told
+mod Behind

@@ -1,12 +1,14 @@
 //! Why a text of orders, or of a mark and orders, isn't taken.
 
-ghost use Rattle.std.specs.Prelude.{ℕ, IfSome, IsNone};
+ghost use Rattle.std.specs.Prelude.{◌≡◌, ℕ, Ok, None, IfOk, IfSome, IsNone};
 ghost use Rattle.trau_orders.specs.Text.{text_lines, IsFirstBad};
+ghost use Rattle.farm_orders.specs.Marked.{IsShort};
 ghost use Rattle.farm_orders.specs.Reasons.{IsFaultOfOrders, IsFaultOfMarked};
+ghost use Rattle.farm_orders.specs.declared.reason.TextFault.{TextFault as OneFault};
 
 use crate::marked::MOST_MARKED_OCTETS;
 use farm_checkpoint::{MarkFault, read_mark};
-use std::alloc::Global;
+use std::alloc::{AllocError, Global};
 use std::fmt::{self, Display, Formatter};
 use trau_orders::{LineFault, first_fault};
 
@@ -30,18 +32,19 @@ pub fn fault_of_orders(text: &[u8]) -> Option<TextFault<'_>>
     }
 }
 
-/// The first line of a mark, or of the orders after it, that isn't in its grammar. `None` also if memory runs out, or
-/// if the text is longer than 1,310,720 octets.
-pub fn fault_of_marked(alloc: Global, text: &[u8]) -> Option<TextFault<'_>>
-    ensures { IfSome result (λ fault. IsFaultOfMarked text.now fault) }
+/// The first line of a mark, or of the orders after it, that isn't in its grammar; `None` if each line is. `None` also
+/// if the text has more than 1,310,720 octets.
+pub fn fault_of_marked(alloc: Global, text: &[u8]) -> Result<Option<TextFault<'_>>, AllocError>
+    ensures some { IfOk result (λ found. IfSome found (λ fault. IsShort text.now × IsFaultOfMarked text.now fault)) }
+    ensures none { result ≡ Ok None → IsShort text.now → (fault : OneFault) → IsFaultOfMarked text.now fault → ⊥ }
 {
     if text.len() > MOST_MARKED_OCTETS {
-        return None;
+        return Ok(None);
     }
     match read_mark(alloc, text) {
-        Ok((_, octets)) => fault_of_orders(&text[octets as usize..]),
-        Err(MarkFault::Line(number)) => Some(TextFault::Mark(number)),
-        Err(MarkFault::Memory) => None,
+        Ok((_, octets)) => Ok(fault_of_orders(&text[octets as usize..])),
+        Err(MarkFault::Line(number)) => Ok(Some(TextFault::Mark(number))),
+        Err(MarkFault::Memory) => Err(AllocError),
     }
 }
 

@@ -160,7 +160,7 @@ fn orders_have_a_first_wrong_word(rt: HostRuntime) {
 }
 
 // Texts of orders, or of a mark and orders if that is true, and what is printed.
-static TEXTS: [(&[u8], bool, &str); 11] = [
+static TEXTS: [(&[u8], bool, &str); 16] = [
     (b"0 open 1", false, ""),
     (
         b"0 open 1\n5 open  2",
@@ -181,6 +181,32 @@ static TEXTS: [(&[u8], bool, &str); 11] = [
         b"0 open \xb9\r",
         false,
         "line 1 of the orders: \"\\xb9\\x0d\" where a call (1 to 4096) is expected; lines end with LF alone",
+    ),
+    // The hint is the first that fits, in the order of `Hint`.
+    (
+        b"0 level 1 0\r\n",
+        false,
+        "line 1 of the orders: \"0\\x0d\" where a level (0 to 32767) is expected; lines end with LF alone",
+    ),
+    (
+        b"0 bridge 1 02\r\n",
+        false,
+        "line 1 of the orders: \"02\\x0d\" where a call (1 to 4096) is expected; lines end with LF alone",
+    ),
+    (
+        b"#0\r\n",
+        false,
+        "line 1 of the orders: \"#0\\x0d\" where a period (0 to 4294967294) is expected; orders have no comments",
+    ),
+    (
+        b"\r\n",
+        false,
+        "line 1 of the orders: \"\\x0d\" where a period (0 to 4294967294) is expected; lines end with LF alone",
+    ),
+    (
+        b"0\topen 1",
+        false,
+        "line 1 of the orders: \"0\\x09open\" where a period (0 to 4294967294) is expected",
     ),
     (
         b"0 aaaaaaaaaabbbbbbbbbbccccccccccddddddddddeeeee",
@@ -213,7 +239,7 @@ static TEXTS: [(&[u8], bool, &str); 11] = [
 // What is printed of a text; an empty text if it is taken.
 fn fault(rt: &impl Abort, alloc: Global, text: &[u8], is_marked: bool) -> String {
     let fault: Option<TextFault<'_>> = if is_marked {
-        fault_of_marked(alloc, text)
+        fault_of_marked(alloc, text).expect(rt, "memory")
     } else {
         fault_of_orders(text)
     };
@@ -237,5 +263,5 @@ fn told_texts(rt: &impl Abort, alloc: Global) -> usize {
 
 #[test]
 fn orders_and_marks_are_refused_for_a_reason(rt: HostRuntime) {
-    assert_rows(&rt, told_texts(&rt, rt.alloc()), 11);
+    assert_rows(&rt, told_texts(&rt, rt.alloc()), 16);
 }

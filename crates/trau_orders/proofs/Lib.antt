@@ -3,6 +3,8 @@ mod Words
 mod OneOrder
 pub mod TextLines
 mod Reading
+mod Beginnings
+mod Wrong
 mod Going
 pub mod Known
 mod FirstBad

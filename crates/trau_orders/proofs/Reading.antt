@@ -21,7 +21,7 @@ pub record HasRead (text rest : List ℕ) (orders : List Order) : Type 0 where
   pub whole : text_lines text ≡ lines ++ text_lines rest
   pub read : AreLines lines orders
 
-length_push : {X : Type 0} (xs : List X) (x : X) → length (xs ++ x ∷ []) ≡ length xs + 1
+pub length_push : {X : Type 0} (xs : List X) (x : X) → length (xs ++ x ∷ []) ≡ length xs + 1
 length_push xs x = length-append xs (x ∷ [])
 
 push_lines : (lines : List (List ℕ)) (os : List Order) (line : List ℕ) (o : Order) → AreLines lines os → IsLine line o → IsNoEarlier os o →
@@ -85,7 +85,7 @@ no_order : Order
 no_order = record { stamp = 0; what = OpenCall 0 A }
 
 -- no orders have these lines and one more that nothing behind them allows
-stops : (lines : List (List ℕ)) (os ps : List Order) (line : List ℕ) → AreLines lines os → AreLines (lines ++ line ∷ []) ps →
+pub stops : (lines : List (List ℕ)) (os ps : List Order) (line : List ℕ) → AreLines lines os → AreLines (lines ++ line ∷ []) ps →
     ((o : Order) → IsLine line o → IsNoEarlier os o → ⊥) → ⊥
 stops lines os ps line are more none =
     none (get_or ps (length os) no_order) (subst (λ l. IsLine l (get_or ps (length os) no_order)) (get_or_push lines line [] (length os) are.one_each)
@@ -113,7 +113,7 @@ stops lines os ps line are more none =
         omega (arith, stamps, rises)
 
 -- the line at which reading stops is the first bad one
-pub read_bad : (text rest line after : List ℕ) (os : List Order) → HasRead text rest os → text_lines rest ≡ line ∷ text_lines after →
+unfoldable pub read_bad : (text rest line after : List ℕ) (os : List Order) → HasRead text rest os → text_lines rest ≡ line ∷ text_lines after →
     ((o : Order) → IsLine line o → IsNoEarlier os o → ⊥) → IsFirstBad (text_lines text) (length os + 1)
 read_bad text rest line after os so_far next none = record {
   at_least = omega arith;

@@ -2,3 +2,5 @@
 pub mod Lists
 pub mod Grammar
 pub mod Text
+pub mod Reasons
+pub mod Places

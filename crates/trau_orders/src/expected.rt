@@ -1,8 +1,23 @@
 //! What the grammar has at a place of an order's line.
 
-use crate::line::{LAST_STAMP, call_of, law_of, level_of, mode_of};
+ghost use Rattle.std.specs.Prelude.{◌≡◌, option_map, true, false, Some, IfSome, IsNone};
+ghost use Rattle.trau_orders.specs.Reasons.{verb_word, argument_of, Admits};
+ghost use Rattle.trau_orders.specs.declared.expected.Verb.{Verb as OneVerb};
+
+use crate::line::{LAST_STAMP, call_of, is_word, law_of, level_of, mode_of};
 use decimal_number::number_of_octets;
 use std::fmt::{self, Display, Formatter};
+
+/// The word that says what is ordered.
+#[derive(Clone, Copy, PartialEq, Eq)]
+pub enum Verb {
+    Open,
+    Close,
+    Bridge,
+    Unbridge,
+    Level,
+    Dtx,
+}
 
 /// What a line may have at a place: a word of a kind, or its end.
 #[derive(Clone, Copy, Debug, PartialEq, Eq)]
@@ -23,27 +38,62 @@ pub enum Expected {
     End,
 }
 
-impl Expected {
-    /// What the line of this verb has after the call; `None` if no order has the verb.
-    pub(crate) fn after_call(verb: &[u8]) -> Option<Expected> {
-        match verb {
-            b"open" => Some(Expected::Law),
-            b"close" | b"unbridge" => Some(Expected::End),
-            b"bridge" => Some(Expected::Call),
-            b"level" => Some(Expected::Level),
-            b"dtx" => Some(Expected::Mode),
-            _ => None,
+impl Verb {
+    /// The verb that a word is.
+    pub(crate) fn of(word: &[u8]) -> Option<Verb>
+        ensures some { IfSome result (λ verb. word.now ≡ verb_word verb) }
+        ensures none { IsNone result → (verb : OneVerb) → word.now ≡ verb_word verb → ⊥ }
+    {
+        if is_word(word, b"open") {
+            Some(Verb::Open)
+        } else if is_word(word, b"close") {
+            Some(Verb::Close)
+        } else if is_word(word, b"bridge") {
+            Some(Verb::Bridge)
+        } else if is_word(word, b"unbridge") {
+            Some(Verb::Unbridge)
+        } else if is_word(word, b"level") {
+            Some(Verb::Level)
+        } else if is_word(word, b"dtx") {
+            Some(Verb::Dtx)
+        } else {
+            None
         }
     }
 
-    /// Whether it is this word, or the line's end.
-    pub(crate) fn admits(self, word: Option<&[u8]>) -> bool {
-        let Some(word) = word else {
-            return matches!(self, Expected::Law | Expected::End);
-        };
+    /// What its line has after the call.
+    pub(crate) fn argument(self) -> Expected
+        ensures { result ≡ argument_of self }
+    {
+        match self {
+            Verb::Open => Expected::Law,
+            Verb::Close | Verb::Unbridge => Expected::End,
+            Verb::Bridge => Expected::Call,
+            Verb::Level => Expected::Level,
+            Verb::Dtx => Expected::Mode,
+        }
+    }
+}
+
+impl Expected {
+    /// Whether a line may have this at the place: a word, or its end if it is `None`.
+    pub(crate) fn admits(self, place: Option<&[u8]>) -> bool
+        ensures yes { result ≡ true → Admits self (option_map (λ w. w.now) place.entry) }
+        ensures no { result ≡ false → Admits self (option_map (λ w. w.now) place.entry) → ⊥ }
+    {
+        match place {
+            None => matches!(self, Expected::Law | Expected::End),
+            Some(word) => self.admits_word(word),
+        }
+    }
+
+    fn admits_word(self, word: &[u8]) -> bool
+        ensures yes { result ≡ true → Admits self (Some word.now) }
+        ensures no { result ≡ false → Admits self (Some word.now) → ⊥ }
+    {
         match self {
             Expected::Stamp(least) => number_of_octets(word, least, LAST_STAMP).is_some(),
-            Expected::Verb => Expected::after_call(word).is_some(),
+            Expected::Verb => Verb::of(word).is_some(),
             Expected::Call => call_of(word).is_some(),
             Expected::Law => law_of(word).is_some(),
             Expected::Level => level_of(word).is_some(),

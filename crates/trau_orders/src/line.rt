@@ -78,7 +78,8 @@ fn of_three(verb: &[u8], call: &[u8], more: &[u8]) -> Option<What>
     }
 }
 
-fn is_word(word: &[u8], name: &[u8]) -> bool
+/// Whether a word is this one.
+pub(crate) fn is_word(word: &[u8], name: &[u8]) -> bool
     ensures yes { result ≡ true → word.now ≡ name.now }
     ensures no { result ≡ false → word.now ≡ name.now → ⊥ }
 {

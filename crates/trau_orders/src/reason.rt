@@ -1,14 +1,13 @@
 //! Why a text of orders isn't in the grammar: its first line that isn't, and the word there.
 
-ghost use Rattle.std.specs.Prelude.{◌≡◌, ◌<◌, ◌≤◌, ℕ, IfOk, IfSome, IsErr, IsNone};
-ghost use Rattle.trau_orders.specs.Grammar.{IsLine};
+ghost use Rattle.std.specs.Prelude.{◌≡◌, ◌≤◌, ℕ, option_map, IfErr, IfOk, IfSome, IsNone};
+ghost use Rattle.trau_orders.specs.Places.{IsLineFrom};
+ghost use Rattle.trau_orders.specs.Reasons.{hint_of, IsFirstFault, IsFirstWrong};
 ghost use Rattle.trau_orders.specs.Text.{text_lines, IsFirstBad};
-ghost use Rattle.trau_orders.specs.declared.order.Order.{Order as OneOrder};
 
-use crate::line::order_of;
+use crate::Expected;
+use crate::places::Places;
 use crate::text::split_line;
-use crate::{Expected, Order};
-use decimal_number::split_at_octet;
 use std::fmt::{self, Display, Formatter};
 
 // So many octets of a word are printed.
@@ -32,88 +31,33 @@ pub struct LineFault<'a> {
     pub fault: WordFault<'a>,
 }
 
-// The words of a line that are still to be looked at; `None` after the last.
-#[derive(Drop)]
-struct Words<'a> {
-    rest: Option<&'a [u8]>,
-}
-
-impl<'a> Words<'a> {
-    // The words of a line, which an empty line lacks.
-    fn of(line: &'a [u8]) -> Words<'a> {
-        let rest = if line.is_empty() { None } else { Some(line) };
-        Words { rest }
-    }
-
-    fn next(&mut self) -> Option<&'a [u8]> {
-        let rest = self.rest?;
-        match split_at_octet(rest, b' ') {
-            None => {
-                self.rest = None;
-                Some(rest)
-            }
-            Some((word, after)) => {
-                self.rest = Some(after);
-                Some(word)
-            }
-        }
-    }
-
-    // The next word, which must be what is expected.
-    fn expect(&mut self, expected: Expected) -> Result<&'a [u8], WordFault<'a>> {
-        let word = self.next();
-        if expected.admits(word) {
-            Ok(word.unwrap_or(b""))
-        } else {
-            Err(WordFault { word, expected })
-        }
-    }
-}
-
-// The words of an order, the stamp not below `least`, up to the end of its line.
-fn expect_order<'a>(words: &mut Words<'a>, least: u32) -> Result<(), WordFault<'a>> {
-    words.expect(Expected::Stamp(least))?;
-    let verb = words.expect(Expected::Verb)?;
-    words.expect(Expected::Call)?;
-    words.expect(Expected::after_call(verb).unwrap_or(Expected::End))?;
-    Ok(())
-}
-
-// Why a line isn't that of an order from `least` on.
-fn why_not(line: &[u8], least: u32) -> WordFault<'_> {
-    let mut words = Words::of(line);
-    match expect_order(&mut words, least) {
-        Err(fault) => fault,
-        Ok(()) => WordFault {
-            word: words.next(),
-            expected: Expected::End,
-        },
-    }
-}
-
-// The order of a line, if its stamp isn't below `least`.
-fn order_from(line: &[u8], least: u32) -> Result<Order, WordFault<'_>>
-    ensures ok { IfOk result (λ order. IsLine line.now order × (least ≤ order.stamp)) }
-    ensures bad { IsErr result → (order : OneOrder) → IsLine line.now order → least ≤ order.stamp → ⊥ }
+// Goes through a line, which must be that of an order from `least` on, and returns the order's stamp.
+fn stamp_of_line(line: &[u8], least: u32) -> Result<u32, WordFault<'_>>
+    requires { least ≤ 4294967294 }
+    ensures ok { IfOk result (λ stamp. IsLineFrom line.now least stamp) }
+    ensures fault { IfErr result (λ fault. IsFirstWrong least line.now (option_map (λ w. w.now) fault.word) fault.expected) }
 {
-    match order_of(line) {
-        Some(order) if least <= order.stamp => Ok(order),
-        _ => Err(why_not(line, least)),
-    }
+    let mut places = Places::of(line);
+    let stamp = places.stamp(least)?;
+    let verb = places.verb()?;
+    places.expect(Expected::Call)?;
+    places.expect(verb.argument())?;
+    places.expect(Expected::End)?;
+    Ok(stamp)
 }
 
 /// The first line that isn't in the grammar, as `Orders::parse` finds it, and why it isn't; `None` if each line is.
 /// No memory is needed, and the limits of a text aren't tested.
 pub fn first_fault(text: &[u8]) -> Option<LineFault<'_>>
-    ensures some { IfSome result (λ fault. IsFirstBad (text_lines text.now) fault.line) }
+    ensures some { IfSome result (λ fault. IsFirstFault text.now fault.line (option_map (λ w. w.now) fault.fault.word) fault.fault.expected) }
     ensures none { IsNone result → (n : ℕ) → IsFirstBad (text_lines text.now) n → ⊥ }
 {
     let mut before = 0usize;
     let mut least = 0;
     let mut rest = text;
     while let Some((line, after)) = split_line(rest) {
-        match order_from(line, least) {
-            Ok(order) => least = order.stamp,
+        match stamp_of_line(line, least) {
+            Ok(stamp) => least = stamp,
             Err(fault) => {
                 return Some(LineFault {
                     line: before + 1,
@@ -127,14 +71,46 @@ pub fn first_fault(text: &[u8]) -> Option<LineFault<'_>>
     None
 }
 
-// What most often makes a word a wrong one.
-fn hint(word: &[u8]) -> &'static str {
-    match word {
-        [] => "; one space separates words",
-        [b'0', _, ..] => "; numbers have no leading zeros",
-        [b'#', ..] => "; orders have no comments",
-        [.., b'\r'] => "; lines end with LF alone",
-        _ => "",
+/// What most often makes a word a wrong one.
+#[derive(Clone, Copy, Debug, PartialEq, Eq)]
+pub enum Hint {
+    /// The word is empty: two spaces follow one another, or a space begins or ends the line.
+    OneSpace,
+    /// It begins with `#`.
+    NoComments,
+    /// It ends with CR.
+    LfAlone,
+    /// It begins with 0, and another digit follows.
+    NoLeadingZeros,
+}
+
+impl Hint {
+    // The first of the hints, in their order, that fits a word.
+    fn of(word: &[u8]) -> Option<Hint>
+        ensures { result ≡ hint_of word.now }
+    {
+        if word.is_empty() {
+            Some(Hint::OneSpace)
+        } else if word[0] == b'#' {
+            Some(Hint::NoComments)
+        } else if word[word.len() - 1] == b'\r' {
+            Some(Hint::LfAlone)
+        } else if word[0] == b'0' && word.len() > 1 && word[1].is_ascii_digit() {
+            Some(Hint::NoLeadingZeros)
+        } else {
+            None
+        }
+    }
+}
+
+impl Display for Hint {
+    fn fmt<W: fmt::Write>(&self, f: &mut Formatter<W>) -> fmt::Result {
+        f.write_str(match self {
+            Hint::OneSpace => "one space separates words",
+            Hint::NoComments => "orders have no comments",
+            Hint::LfAlone => "lines end with LF alone",
+            Hint::NoLeadingZeros => "numbers have no leading zeros",
+        })
     }
 }
 
@@ -157,8 +133,11 @@ impl Display for WordFault<'_> {
             Some(word) => {
                 f.write_str("\"")?;
                 write_word(word, f)?;
-                let hint = hint(word);
-                write!(f, "\" where {expected} is expected{hint}")
+                write!(f, "\" where {expected} is expected")?;
+                match Hint::of(word) {
+                    Some(hint) => write!(f, "; {hint}"),
+                    None => Ok(()),
+                }
             }
         }
     }

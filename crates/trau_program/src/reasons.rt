@@ -52,14 +52,16 @@ fn tell_orders<R: Eprint + AllocGlobal>(rt: &R, words: &[String], orders: &[u8])
     }
 }
 
-// The fault of a command's orders. Those of `resume` follow a mark.
+// The fault of a command's orders. Those of `resume` follow a mark, and are read again, which takes memory.
 fn fault_in<'a, R: AllocGlobal>(
     rt: &R,
     words: &[String],
     orders: &'a [u8],
 ) -> Option<TextFault<'a>> {
     match words {
-        [command, ..] if command.as_str() == "resume" => fault_of_marked(rt.alloc(), orders),
+        [command, ..] if command.as_str() == "resume" => {
+            fault_of_marked(rt.alloc(), orders).ok()?
+        }
         _ => fault_of_orders(orders),
     }
 }

@@ -10,7 +10,8 @@ from typing import Dict, Iterator, List, Optional, Sequence
 
 from trau.rules import profile
 from trau.rules.numbers import number
-from trau.rules.orders import FORMS, NAMES, lines_of
+from trau.rules.orders import lines_of
+from trau.rules.word_reasons import where_expected, why_no_order, zeros_hint
 
 # The greatest call of each command without options.
 LAST_CALLS = {
@@ -19,32 +20,13 @@ LAST_CALLS = {
 }
 
 WANTED = f"W (0 to {profile.MOST_WANTED}, a multiple of {profile.WANTED_STEP})"
-EXPECTED = {
-    "verb": "open, close, bridge, unbridge, level or dtx",
-    "call": f"a call (1 to {profile.MOST_CALLS})",
-    "law": "mulaw, or nothing for A-law,",
-    "level": f"a level (0 to {profile.MOST_LEVEL})",
-    "mode": "on, off or uplink",
-    "end": "the line's end",
-}
-MOST_SHOWN = 40
-
-
-def _where(word: str, expected: str, hint: str) -> str:
-    return f'"{word}" where {expected} is expected{hint}'
-
-
-def _padded(word: str) -> str:
-    return "; numbers have no leading zeros" if len(word) > 1 and word[0] == "0" else ""
-
-
-# Words.
 
 
 def _word(word: Optional[str], expected: str) -> str:
+    """Why a word of a command line, or their end, isn't what is expected there."""
     if word is None:
         return f"the words end where {expected} is expected"
-    return _where(word, expected, _padded(word))
+    return where_expected(word, expected, zeros_hint(word))
 
 
 def _of_call(name: str, words: Iterator[str]) -> str:
@@ -98,52 +80,11 @@ def of_words(words: Sequence[str]) -> str:
     return f'"{name}" is no command; trau help lists them'
 
 
-# Orders.
-
-
-def _hint(word: str) -> str:
-    if word.startswith("#"):
-        return "; orders have no comments"
-    if not word:
-        return "; one space separates words"
-    return _padded(word) or ("; lines end with LF alone" if word.endswith("\r") else "")
-
-
-def _shown(word: str) -> str:
-    shown = "".join(
-        each if " " <= each <= "~" else f"\\x{ord(each):02x}" for each in word[:MOST_SHOWN]
-    )
-    return shown + (".." if len(word) > MOST_SHOWN else "")
-
-
-def _is(kind: str, word: str, least: int) -> bool:
-    if kind == "stamp":
-        return number(word, least, profile.MOST_STAMP) is not None
-    if kind == "call":
-        return number(word, 1, profile.MOST_CALLS) is not None
-    if kind == "level":
-        return number(word, 0, profile.MOST_LEVEL) is not None
-    return word in (FORMS if kind == "verb" else NAMES.get(kind, ()))
-
-
-def _of_line(line: str, least: int) -> str:
-    """Why a line isn't that of an order that isn't before `least`."""
-    words = line.split(" ") if line else []
-    verb = words[1] if len(words) > 1 else ""
-    before = f"{least}, that of the order before," if least else "0"
-    expected = {**EXPECTED, "stamp": f"a period ({before} to {profile.MOST_STAMP})"}
-    kinds = ["stamp", "verb", *FORMS.get(verb, (("call",),))[-1], "end"]
-    for kind, word in zip(kinds, words):
-        if not _is(kind, word, least):
-            return _where(_shown(word), expected[kind], _hint(word))
-    return f"the line ends where {expected[kinds[len(words)]]} is expected"
-
-
 def of_orders(text: bytes, line: int) -> str:
     """Why the first bad line of orders isn't one."""
     lines = [each.decode("latin-1") for each in lines_of(text)]
     least = int(lines[line - 2].split(" ")[0]) if line > 1 else 0
-    return f"line {line} of the orders: {_of_line(lines[line - 1], least)}"
+    return f"line {line} of the orders: {why_no_order(lines[line - 1], least)}"
 
 
 def of_mark(line: int) -> str:

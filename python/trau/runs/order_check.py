@@ -5,7 +5,6 @@ from pathlib import Path
 from typing import Dict, List, Optional, Sequence, Tuple
 
 from trau.command_line.files import read_file
-from trau.command_line.word_faults import grouped
 from trau.command_line.words import Refusal, option, switch
 from trau.recordings import file_kinds
 from trau.recordings.file_descriptions import FileKind
@@ -60,7 +59,7 @@ def check_marked(words: argparse.Namespace, octets: bytes) -> int:
     """Says what is wrong with a mark and the orders after it."""
     mark, rest = marks.read_mark(octets)
     text = Text.read(rest)
-    faults = [(line, "; ".join(each)) for line, each in mark.faults.items()]
+    faults = list(mark.faults.items())
     compared = not mark.faults and not text.faults
     print_faults(
         "mark line",
@@ -69,7 +68,7 @@ def check_marked(words: argparse.Namespace, octets: bytes) -> int:
     too_long = len(octets) > MOST_MARKED_OCTETS
     if too_long:
         print(
-            f"too long: {grouped(len(octets))} octets; the program takes {grouped(MOST_MARKED_OCTETS)} with the mark"
+            f"too long: {len(octets):,} octets; the program takes {MOST_MARKED_OCTETS:,} with the mark"
         )
     print(f"mark lines {mark.lines} bad {len(mark.faults)}")
     status = say_of_orders(words, text, len(rest))
@@ -99,7 +98,7 @@ def check(words: argparse.Namespace) -> int:
 
 def say_of_orders(words: argparse.Namespace, text: Text, octets: int) -> int:
     """Says what is wrong with orders of so many octets."""
-    said = [(line, "; ".join(faults)) for line, faults in text.faults.items()]
+    said = list(text.faults.items())
     remarks = remarks_on(text.orders, words.lines)
     said += [(line, f"warning: {what}") for line, what in remarks.warnings]
     said += [(line, f"note: {what}") for line, what in remarks.notes]
@@ -107,8 +106,7 @@ def say_of_orders(words: argparse.Namespace, text: Text, octets: int) -> int:
     too_long = octets > MOST_ORDER_OCTETS or text.lines > MOST_ORDERS
     if too_long:
         print(
-            f"too long: {grouped(octets)} octets and {grouped(text.lines)} lines; the program takes {grouped(MOST_ORDER_OCTETS)}"
-            f" octets and {grouped(MOST_ORDERS)} lines"
+            f"too long: {octets:,} octets and {text.lines:,} lines; the program takes {MOST_ORDER_OCTETS:,} octets and {MOST_ORDERS:,} lines"
         )
     print(f"orders {text.lines} bad {len(text.faults)} warnings {len(remarks.warnings)}")
     return 1 if text.faults or too_long else 0

@@ -1,4 +1,4 @@
-use Rattle.std.proofs.Common.{◌≡◌, ◌+◌, ◌≤◌, length}
+use Rattle.std.proofs.Common.{◌+◌, ◌≤◌, length}
 use Rattle.trau_orders.proofs.Going.{HasGone}
 use Rattle.trau_orders.proofs.reason.first_fault.Given as goal
 
