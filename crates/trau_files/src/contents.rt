@@ -1,6 +1,6 @@
 //! All lines over an honest folder, with the octets of their files.
 
-ghost use Rattle.std.specs.Prelude.{◌≡◌, ◌<◌, length, IsTrue, false, IfOk, IfErr, IfSome, slice_get};
+ghost use Rattle.std.specs.Prelude.{◌≡◌, ◌<◌, length, IsTrue, false, IfOk, IfErr, IsErr, IfSome, slice_get};
 ghost use Rattle.trau_io.specs.Indices.{index_of_line};
 ghost use Rattle.trau_io.specs.Lines.{Reads, Writes, OthersStay};
 ghost use Rattle.trau_files.specs.Contents.{IsAtStart, IsMade, IsRecorded, KnowsIf, contents_if, first_if};
@@ -98,6 +98,9 @@ impl<D: Folder + Eprint + Drop, K: AtStart> Trunk for Contents<D, K> {
         // It is a write of the line's file, but for a recorded line.
         ensures passes { IsMade line.side → IfSome (slice_get self.old.lines (index_of_line line.call line.side))
             (λ l. TrunkWrites D.does self.old self.new line.call line.side l result bytes.now) }
+
+        // A recorded line isn't written.
+        ensures fails { IsRecorded line.side → IsErr result }
     {
         if is_recorded(line) {
             return Err(self.trunk.refuse(line));

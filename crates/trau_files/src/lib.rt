@@ -13,7 +13,7 @@
 //! closed), `Tries.antt` (interrupted operations), `Trunk.antt` (a read and a write of a line), `Claims.antt` (which
 //! line has which file), `Recordings.antt` (which files the incoming lines have), `Disk.antt` (names and octets of
 //! files), `Honest.antt` (what an honest folder is), `Holds.antt` (what its files hold), `OnPaper.antt` (one such
-//! folder), `Streams.antt` (the desk's streams).
+//! folder), `Contents.antt` (the lines with the octets of its files), `Streams.antt` (the desk's streams).
 #![tactic(auto)]
 
 mod contents;

@@ -1,5 +1,5 @@
 use Rattle.std.specs.Prelude.{IfSome, slice_get}
-use Rattle.std.proofs.Common.{subst, Err}
+use Rattle.std.proofs.Common.{refl, subst, Err}
 use Rattle.trau_io.specs.Indices.{index_of_line}
 use Rattle.trau_io.specs.Lines.{Writes}
 use Rattle.trau_files.specs.Trunk.{TrunkFiles, TrunkWrites}
@@ -18,7 +18,7 @@ returns-then-is_recorded g c =
     (refuse_known g.D.Folder.honest g.K.AtStart.start c.self.inside.trunk c.refuse.new.self c.args.line.call c.args.line.side c.refuse.result
     c.args.bytes.now (c.is_recorded.ensures.recorded c.if-is_recorded.true) (c.refuse.ensures.this c.args.bytes.now) c.refuse.ensures.others c.refuse.ensures.counts
     c.refuse.ensures.files c.self.invariant) in
-    record { this = all.1; others = all.2; passes = λ made. absurd (recorded_or_made c.args.line.side (c.is_recorded.ensures.recorded c.if-is_recorded.true) made) }
+    record { this = all.1; others = all.2; passes = λ made. absurd (recorded_or_made c.args.line.side (c.is_recorded.ensures.recorded c.if-is_recorded.true) made); fails = λ recorded. refl }
 
 pub invariant_of-self-2 : goal.invariant_of-self-2
 invariant_of-self-2 g c = (write_known g.D.Folder.honest g.K.AtStart.start c.self.inside.trunk c.write.new.self c.args.line.call c.args.line.side c.write.result
@@ -32,4 +32,9 @@ returns g c =
     c.args.bytes.now (c.is_recorded.ensures.made c.if-is_recorded.false) c.write.ensures.this c.write.ensures.others c.write.ensures.honest c.write.ensures.kept c.self.invariant) in
     let passes = subst (λ (t : TrunkFiles _ _). IfSome (slice_get t.lines (index_of_line c.args.line.call c.args.line.side))
     (λ l. TrunkWrites g.D.Folder.does t c.write.new.self c.args.line.call c.args.line.side l c.write.result c.args.bytes.now)) c.self.view_is c.write.ensures.after in
-    record { this = all.1; others = all.2; passes = λ made. passes }
+    record {
+      this = all.1;
+      others = all.2;
+      passes = λ made. passes;
+      fails = λ recorded. absurd (recorded_or_made c.args.line.side recorded (c.is_recorded.ensures.made c.if-is_recorded.false));
+    }
