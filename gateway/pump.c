@@ -8,11 +8,12 @@
 #include <stdlib.h>
 #include <string.h>
 #include <sys/epoll.h>
+#include <sys/syscall.h>
 #include <time.h>
 #include <unistd.h>
 
-enum { READY = 512, MOST_PACKETS = 4, MOST_OCTETS = 1500, FEWEST_SOCKETS = 25, MOST_OLD = 2000 };
-static const int64_t SECOND = 1000000000, MOST_DROPPING = 100000000, DROPPING_AT_A_TICK = 1000000;
+enum { READY = 512, MOST_PACKETS = 4, MOST_OCTETS = 1500, FEWEST_SOCKETS = 25, MOST_OLD = 2000, WAKING = 5 };
+static const int64_t SECOND = 1000000000, MOST_DROPPING = 100000000, DROPPING_AT_A_TICK = 1000000, SLICE = 100000;
 static const uint32_t SIZES[PUMP_LINES] = {40, 160, 40, 160}; /* octets of a period of Up, Pcm, Down and Out */
 
 const uint32_t pump_sizes[7] = {sizeof(struct pump_report), sizeof(struct pump_command), sizeof(struct pump_side),
@@ -149,7 +150,8 @@ static void keep(struct pump *pump, struct slot *slot, const struct trau_record 
     uint8_t *at = slot->block->octets;
     for (int k = 0; k < PUMP_LINES; at += SIZES[k] * pump->every, k++)
         memcpy(at + SIZES[k] * slot->block->periods, lines[k], SIZES[k]);
-    if (++slot->block->periods == pump->every)
+    /* Each slot has its own period of `every`, so that the blocks of many calls don't come at once. */
+    if (++slot->block->periods == pump->every || (period + slot->block->slot) % pump->every == 0)
         hand_over(pump, slot, period);
 }
 
@@ -273,9 +275,9 @@ static void turn_one(struct pump *pump, struct slot *slot, uint32_t tick) {
 static void turn_pair(struct pump *pump, struct slot *one, struct slot *other, uint32_t tick) {
     struct trau_record records[2];
     struct trau_datagrams datagrams[2];
-    uint32_t to_gsm = trau_call_turn_pair(&one->call, &other->call, tick, records, datagrams);
-    speak(pump, one, to_gsm & 1, &records[0], &datagrams[0], tick);
-    speak(pump, other, to_gsm & 2, &records[1], &datagrams[1], tick);
+    trau_call_turn_pair(&one->call, &other->call, tick, records, datagrams);
+    speak(pump, one, true, &records[0], &datagrams[0], tick);
+    speak(pump, other, true, &records[1], &datagrams[1], tick);
 }
 
 void pump_process(struct pump *pump, const struct pump_turn *turn) {
@@ -380,12 +382,14 @@ static void execute(struct pump *pump, const struct pump_command *command, struc
     }
 }
 
-void pump_execute(struct pump *pump, uint32_t period) {
+bool pump_execute(struct pump *pump, uint32_t period) {
+    bool is_any = has_more(&pump->commands);
     while (has_more(&pump->commands)) {
         uint32_t number = pump->commands.read, at = read_place(&pump->commands);
         execute(pump, &pump->command[at], &pump->report[at], period);
         tell(pump, PUMP_ANSWER, number, period);
     }
+    return is_any;
 }
 
 /* ---- slots, while they aren't open */
@@ -437,14 +441,27 @@ static void take_turn(struct pump *pump, const struct pump_turn *turn) {
     }
     if (turn->phase == 0) { /* the period first, so that who has an answer knows that its period has begun */
         atomic_store_explicit(&pump->period, turn->period, memory_order_release);
-        pump_execute(pump, turn->period);
-        wake(pump);
+        if (pump_execute(pump, turn->period) || (turn->period + 1) % WAKING == 0)
+            wake(pump);
     }
     pump_process(pump, turn);
 }
 
+/* The kernel's attributes of a thread (sched_setattr(2)), which libc doesn't have. */
+struct attributes { uint32_t size, policy; uint64_t flags; int32_t nice; uint32_t priority; uint64_t runtime, deadline, period; };
+
+/* A thread that asks for short slices has the processor as soon as it wakes (Linux 6.12; before, it changes nothing). */
+static void take_short_slices(void) {
+    struct attributes mine = {0};
+    if (syscall(SYS_sched_getattr, 0, &mine, sizeof mine, 0) == 0 && mine.policy == SCHED_OTHER) {
+        mine.runtime = SLICE;
+        syscall(SYS_sched_setattr, 0, &mine, 0);
+    }
+}
+
 static void *run(void *given) {
     struct pump *pump = given;
+    take_short_slices();
     struct pump_turn turn = next_turn(pump->clock);
     for (; !is_last(pump, &turn); turn = next_turn(pump->clock))
         take_turn(pump, &turn);

@@ -73,7 +73,8 @@ uint32_t pump_prepare(struct pump *, uint32_t slot, const struct trau_call_setti
 void pump_dismiss(struct pump *, uint32_t slot);
 int pump_watch(struct pump *, uint32_t slot, uint32_t side, uint32_t phase); /* 0, or errno */
 
-/* The loop on its own thread, up to the period `until` or pump_stop; it writes to `wakes` in each period. */
+/* The loop on its own thread, up to the period `until` or pump_stop. It writes to `wakes` when commands are answered, in each fifth period, and
+ * at its end. */
 int pump_start(struct pump *, uint32_t until, int wakes);
 uint32_t pump_stop(struct pump *); /* the period at which it ended, of which nothing is processed */
 void pump_state(struct pump *, struct pump_state *);
@@ -82,7 +83,7 @@ void pump_state(struct pump *, struct pump_state *);
 struct pump_turn { uint32_t period, phase, behind, given_up; };
 
 /* What the thread does in a turn; without it a test does this, on its own clock. */
-void pump_execute(struct pump *, uint32_t period);
+bool pump_execute(struct pump *, uint32_t period); /* whether there were commands */
 void pump_process(struct pump *, const struct pump_turn *);
 void pump_give_up(struct pump *, const struct pump_turn *);
 void pump_arrived(struct pump *, uint32_t slot, uint32_t side, const uint8_t *octets, size_t count, uint32_t host, uint16_t port,

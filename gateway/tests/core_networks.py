@@ -48,6 +48,7 @@ def load(path: str) -> ctypes.CDLL:
     core.trau_call_turn.argtypes = [_pointer, _u32, ctypes.c_int16, ctypes.c_bool] + [_pointer] * 2
     core.trau_call_turn.restype = ctypes.c_bool
     core.trau_call_turn_pair.argtypes = [_pointer, _pointer, _u32] + [_pointer] * 2
+    core.trau_call_turn_pair.restype = None
     core.trau_call_give_up.argtypes = [_pointer, _u32, _u32]
     core.trau_call_end.argtypes = [_pointer]
     core.trau_call_reports.argtypes = [_pointer, _u32, _pointer]
@@ -238,15 +239,16 @@ def of_core(
     """The four lines of a period and the packets to both sides, by the core, of each call."""
     handles = [call.handle for call in calls]
     records, datagrams = (_Record * len(calls))(), (_Datagrams * len(calls))()
+    to_gsm = True
     if is_pair:
-        to_gsm = core.trau_call_turn_pair(*handles, tick, records, datagrams)
+        core.trau_call_turn_pair(*handles, tick, records, datagrams)
     else:
         (one,) = calls
         state = one.settings.level, one.settings.dtx
         to_gsm = core.trau_call_turn(one.handle, tick, *state, records, datagrams)
     return [
-        (bytes(record), bytes(each.gsm) if to_gsm >> k & 1 else b"", bytes(each.pcm))
-        for k, (record, each) in enumerate(zip(records, datagrams))
+        (bytes(record), bytes(each.gsm) if to_gsm else b"", bytes(each.pcm))
+        for record, each in zip(records, datagrams)
     ]
 
 

@@ -1,11 +1,13 @@
 """The gateway as a service has it: ten minutes of live calls with 3 % loss, a million hostile packets beside calls, 20,000 calls one after the
-other on a turned clock. Each recording is replayed. Some twenty minutes; counts depend on the machine, and are printed."""
+other on a turned clock, and 2,000 (or TRAU_RECORDINGS) with a recording each. Each recording is replayed. Some twenty minutes; counts depend on the
+machine, and are printed."""
 
+import os
 import random
 import re
 import time
 import unittest
-from collections import defaultdict
+from collections import Counter, defaultdict
 
 from live_support import LOOPBACK, WithLive, bound, hostile_packet, hostile_report, playing, talk
 from support import LINE, PERIOD, SPEECH, InFolder, Turned, open_line, repeated, with_program
@@ -18,6 +20,7 @@ MINUTES, LIVE_CALLS = 10, 20
 HOSTILE, DIFFERENT = 1_000_000, 20_000  # packets that are sent, and those that are drawn
 CALLS, LENGTH = 20_000, 10  # calls, and the periods of each
 AT_ONCE = 4  # calls that are opened in a period
+RECORDINGS = int(os.environ.get("TRAU_RECORDINGS", 2_000))  # of one call each
 HARMLESS = "stranger|not-rtp|rtcp|other|odd|empty|too-long|probation|new-source|far|jumps|doubled"
 LOSS = Faults(loss=0.03, jitter=0.02)
 
@@ -69,27 +72,42 @@ class Minutes(WithLive):
 
 @with_program
 class Numbers(InFolder):
-    def test_calls_one_after_the_other(self):
+    """Calls one after the other in one process, some of them bridged."""
+
+    def carried(self, calls, bridges, has_own):
+        """Carries so many calls, and says what the gateway said. has_own: each has a recording of its own, in whose folder its number is."""
         turned, lines = Turned(self.folder / "rec", every=5), defaultdict(list)
-        for number in range(CALLS):
+        for number in range(calls):
             call, begun = number % MOST_CALLS + 1, number // AT_ONCE
             start = begun * PERIOD / 8000
             turned.bring(
                 call,
                 schedule(repeated(SPEECH, LENGTH, number), GSM, number, start=start),
-                schedule(repeated(LINE, LENGTH, number), ALAW, number + CALLS, start=start),
+                schedule(repeated(LINE, LENGTH, number), ALAW, number + calls, start=start),
             )
+            lines[begun] += [f"record {self.folder}/rec-{number}"] if has_own else []
             lines[begun].append(open_line(call))
-            if number % 3 == 1 and number % AT_ONCE:
+            if bridges and number % 3 == 1 and number % AT_ONCE:
                 lines[begun + 2].append(f"bridge {call - 1} {call}")
             lines[begun + LENGTH].append(f"close {call}")
-        said = turned.run(lines, CALLS // AT_ONCE + LENGTH + 1)
-        refused = [each for each in said if each.startswith("refused")]
-        self.assertEqual(refused, [])
-        folders = sorted(self.folder.glob("rec*"))
-        calls = [self.assert_replays(folder)[-1] for folder in folders]
+        said = turned.run(lines, calls // AT_ONCE + LENGTH + 1)
+        self.assertEqual([each for each in said if each.startswith("refused")], [])
+
+    def replayed(self):
+        """The last line of the check of each recording."""
+        return [self.assert_replays(folder)[-1] for folder in sorted(self.folder.glob("rec*"))]
+
+    def test_calls_one_after_the_other(self):
+        self.carried(CALLS, bridges=True, has_own=False)
+        calls = self.replayed()
         print(*calls, sep="\n")
         self.assertEqual(sum(int(each.split()[1]) for each in calls), CALLS)
+
+    def test_a_recording_for_each_call(self):
+        self.carried(RECORDINGS, bridges=False, has_own=True)
+        counts = Counter(self.replayed())
+        print(dict(counts))
+        self.assertEqual(counts, {"calls 1 differ 0": RECORDINGS, "calls 0 differ 0": 1})
 
 
 if __name__ == "__main__":

@@ -24,11 +24,11 @@ from trau.gateway.clock import Clock
 from trau.gateway.incoming import Incoming
 from trau.gateway.live import Commands, Gateway, Speaker
 from trau.gateway import pump
-from trau.gateway.network import Endpoint
 from trau.gateway.pump import NAMES, PumpBoard
 from trau.gateway.recorder import Recorder
 from trau.gateway.rtcp import Reports
 from trau.gateway.settings import Address, Side
+from hearing import HearingEndpoint
 from spoiler import Sent
 from trau.gateway.switchboard import Connection, Switchboard
 
@@ -70,7 +70,7 @@ class TurnedClock:
         self.time += wait
 
 
-class TurnedEndpoint(Endpoint):
+class TurnedEndpoint(HearingEndpoint):
     """An endpoint without a socket."""
 
     def __init__(self, side: Side, is_strict: bool, incoming: Incoming) -> None:

@@ -39,14 +39,11 @@ from trau.gateway.jitter_buffer import LIMIT, MOST_MARGIN, PATIENCE, WINDOW, Jit
 from trau.gateway import clock
 from trau.gateway import live
 from trau.gateway.live import Commands, Gateway, Speaker
-from trau.gateway.network import (
-    KEEPS_PORT,
-    Endpoint,
-    Network,
-)
+from trau.gateway.network import Network
 from trau.gateway.recorder import CLOSE_OCTETS, Recorder
 from trau.gateway.rtcp import Reception, Reports
 from trau.gateway.settings import Side, read_open
+from hearing import KEEPS_PORT, HearingEndpoint
 from spoiler import header
 from trau.gateway.switchboard import Switchboard
 from trau.trau_fr import Kind, kind_of
@@ -810,7 +807,7 @@ class Endpoints(unittest.TestCase):
         return header(3, number, 160 * number, 5) + ONE
 
     def test_strict(self):
-        endpoint = Endpoint(Side(6000, self.PEER), True, gsm_stream())
+        endpoint = HearingEndpoint(Side(6000, self.PEER), True, gsm_stream())
         for number, sender in enumerate((self.PEER, ("127.0.0.1", 6004), ("127.0.0.2", 6002))):
             endpoint.arrived(self.packet(number), sender, 0, 0)
         self.assertEqual(
@@ -825,7 +822,7 @@ class Endpoints(unittest.TestCase):
             yield endpoint.peer
 
     def test_packets_go_where_two_of_the_peer_came_from(self):
-        endpoint = Endpoint(Side(6000, self.PEER, is_any=True), False, gsm_stream())
+        endpoint = HearingEndpoint(Side(6000, self.PEER, is_any=True), False, gsm_stream())
         here, other = ("10.0.0.7", 4000), ("10.0.0.8", 5000)
         rows = [(0, here, 5, 0), (1, other, 6, 9), (1, here, 5, 1), (2, other, 5, 2)]
         went = list(self.arrivals(endpoint, rows))
@@ -833,7 +830,7 @@ class Endpoints(unittest.TestCase):
         self.assertEqual(endpoint.incoming.counts, {"stranger": 2, "moved": 1})
 
     def test_another_sender_takes_over_once_its_source_stood_probation(self):
-        endpoint = Endpoint(Side(6000, self.PEER, is_any=True), False, gsm_stream())
+        endpoint = HearingEndpoint(Side(6000, self.PEER, is_any=True), False, gsm_stream())
         here, other = ("10.0.0.7", 4000), ("10.0.0.8", 5000)
         speaks = [(tick, here, 5, tick) for tick in range(5)]
         rows = [(4 + KEEPS_PORT + k, other, 6, 9 + k) for k in range(4)]
@@ -844,14 +841,14 @@ class Endpoints(unittest.TestCase):
         self.assertEqual(+endpoint.incoming.counts, wanted)
 
     def test_one_packet_moves_nothing(self):
-        endpoint = Endpoint(Side(6000, self.PEER, is_any=True), False, gsm_stream())
+        endpoint = HearingEndpoint(Side(6000, self.PEER, is_any=True), False, gsm_stream())
         there, still = ("10.0.0.7", 4000), KEEPS_PORT
         rows = [(still, there, 5, still), (2 * still, self.PEER, 5, 2 * still)]
         rows += [(3 * still, there, 5, 3 * still), (4 * still, ("10.0.0.7", 4002), 5, 4 * still)]
         self.assertEqual(set(self.arrivals(endpoint, [(0, self.PEER, 5, 0), *rows])), {self.PEER})
 
     def test_without_the_option_packets_go_to_the_peer_of_the_line(self):
-        endpoint = Endpoint(Side(6000, self.PEER), False, gsm_stream())
+        endpoint = HearingEndpoint(Side(6000, self.PEER), False, gsm_stream())
         rows = [(tick, (self.PEER[0], 7000), 5, tick) for tick in range(9)]
         self.assertEqual(set(self.arrivals(endpoint, rows)), {self.PEER})
 
@@ -868,7 +865,7 @@ class Endpoints(unittest.TestCase):
             self.assertEqual(control.recv(1500)[1], 201)
 
     def test_a_fault_is_counted_and_ends_nothing(self):
-        endpoint = Endpoint(Side(6000, self.PEER), True, gsm_stream())
+        endpoint = HearingEndpoint(Side(6000, self.PEER), True, gsm_stream())
         with unittest.mock.patch.object(
             endpoint.incoming, "packet", side_effect=struct.error("no\nroom")
         ):
@@ -1015,7 +1012,7 @@ class Endpoints(unittest.TestCase):
                 self.assertEqual(self.answers(is_strict, senders, counted), wanted)
 
     def test_a_port_that_is_heard_is_kept(self):
-        endpoint = Endpoint(Side(6000, self.PEER), False, gsm_stream())
+        endpoint = HearingEndpoint(Side(6000, self.PEER), False, gsm_stream())
         for tick, port in ((0, 7000), (1, 7002), (KEEPS_PORT, 7004)):
             endpoint.arrived(self.packet(tick), ("127.0.0.1", port), tick, 0)
         self.assertEqual(
@@ -1061,6 +1058,22 @@ class Recordings(InFolder):
                 "out": b"o" * 1120,
             }
             self.assertEqual(read, wanted)
+
+    def test_what_waits_is_written_in_the_order_of_its_periods(self):
+        # Else a kill would leave some calls with many periods more than others, after a gateway that was late.
+        one, written = self.made(), []
+        for call in (1, 2):
+            one.open(call)
+        for number in range(1, 6):
+            for call in (1, 2):
+                size = 40 * number * call  # other ones for each block
+                one.block(call, (bytes(size), bytes(4 * size), bytes(size), bytes(4 * size)))
+        with unittest.mock.patch.object(recorder, "write_lines", written.extend):
+            one.write()
+            one.end()
+            one.writer.join()
+        ups = [len(lines[0]) // 40 for _, lines in written]
+        self.assertEqual(ups, [number * call for number in range(1, 6) for call in (1, 2)])
 
     def stalled(self, periods):
         """What a recording of a disk that stalls says, and a call's Out after these periods."""

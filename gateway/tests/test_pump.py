@@ -5,6 +5,7 @@ import contextlib
 import ctypes
 import errno
 import os
+import select
 import socket
 import subprocess
 import sys
@@ -81,14 +82,15 @@ class Clocks(unittest.TestCase):
         self.assertEqual(turns[2], (0, 2, 0, 0, 99 * PERIOD + 2 * PHASE))
 
 
-@with_loopback
-class Loops(InFolder):
+class Looped(InFolder):
     """A loop with sockets, which the test turns."""
+
+    every = 1  # periods of a block
 
     def setUp(self):
         super().setUp()
         self.say = Kept()
-        self.recorder = Recorder(self.folder / "rec", 1, self.say)
+        self.recorder = Recorder(self.folder / "rec", self.every, self.say)
         self.recorder.make()
         library = pump.load(Path(loop_library.given()))
         parts = Network("127.0.0.1"), self.recorder, 4, self.say
@@ -125,6 +127,40 @@ class Loops(InFolder):
     def process(self, period):
         for phase in range(4):
             self.board.process(phase, period, 0)
+
+
+@with_loopback
+class Blocks(Looped):
+    every = 4
+
+    def test_each_call_has_periods_of_its_own(self):
+        self.open(1)
+        slot = self.board.connections[1].call.slot
+        for period in range(3 * self.every):
+            self.turn(period)
+        events = self.board.pump.events()
+        blocks = [(each.number, each.period) for each in events if each.kind == pump.BLOCK]
+        first = -slot % self.every  # in which its number and the period's are whole blocks
+        wanted = list(range(first, 3 * self.every, self.every))
+        self.assertEqual([period for _, period in blocks], wanted)
+        lines = [self.board.pump.lines(number) for number, _ in blocks]
+        self.assertEqual({each for each, _ in lines}, {slot})
+        periods = [len(out) // 160 for _, (_, _, _, out) in lines]
+        self.assertEqual(periods, [first + 1] + [self.every] * (len(wanted) - 1))
+
+
+@with_loopback
+class Loops(Looped):
+    def test_it_wakes_python_in_each_fifth_period_and_at_its_end(self):
+        loop, count = self.board.pump, 0
+        loop.start(20)
+        while not loop.state().has_ended:
+            select.select([loop.wakes], [], [])
+            count += len(os.read(loop.wakes, 4096))
+        with contextlib.suppress(BlockingIOError):
+            count += len(os.read(loop.wakes, 4096))
+        loop.stop()
+        self.assertIn(count, range(1, 6))  # fewer, if it gives up time
 
     def test_packets_go_where_two_of_the_peer_came_from(self):
         gsm, _ = self.open(words="from any")
@@ -305,7 +341,7 @@ class Libraries(InFolder):
     def test_one_that_cant_be_had_is_refused(self):
         reasons = {
             "none.so": "packages of trau have it",
-            trau_fr.library_name(): "undefined symbol",
+            trau_fr._library._name: "undefined symbol",
         }
         for name, reason in reasons.items():
             words = ["gateway.py", "run", str(self.folder / "rec")]

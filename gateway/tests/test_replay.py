@@ -150,6 +150,15 @@ class Checks(InFolder):
             self.assertRegex(lines[0], rf"^call {name[0]} periods \d+ a line is short or missing$")
             folder.rename(self.folder / name)
 
+    def test_a_call_without_files(self):  # as if they couldn't be made
+        folder = self.record()
+        for path in folder.glob("3.*"):
+            path.unlink()
+        status, lines = self.checked(folder)
+        said = "call 3 periods 0 a line is short or missing"
+        equal = ["call 1 periods 60 equal", "call 2 periods 60 equal"]
+        self.assertEqual((status, lines[:4]), (1, [said, *equal, "calls 3 differ 1"]))
+
     def test_nothing_is_left(self):
         folder = self.record()
         for name in ("1.up", "2.up", "3.up"):

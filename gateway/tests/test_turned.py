@@ -678,7 +678,8 @@ class Recorded(InFolder):
         self.assertEqual(sizes, [30 * 160, 10 * 160])
         self.assertEqual((self.folder / "moved/clock.txt").read_text().splitlines()[-1], "30 end 8")
 
-    def test_a_file_that_cant_be_opened_ends_its_call_alone(self):
+    def without_files(self):
+        """A gateway in which the files of call 2 can't be made; period 10 waits until that is known."""
         turned = Turned(self.folder / "rec")
         (self.folder / "rec/2.pcm").touch()
         process = turned.board.process
@@ -689,6 +690,10 @@ class Recorded(InFolder):
                 time.sleep(0.001)
 
         turned.board.process = patient
+        return turned
+
+    def test_a_file_that_cant_be_opened_ends_its_call_alone(self):
+        turned = self.without_files()
         said = turned.run(
             {0: [open_line(1), open_line(2)], 29: ["counts 2", "close 2"], 30: [open_line(3)]}, 40
         )
@@ -703,6 +708,14 @@ class Recorded(InFolder):
         self.assertEqual(left, ["2.pcm"])
         self.assertTrue((self.folder / "rec/clock.txt").read_text().endswith("40 end 12\n"))
         self.assertFalse(turned.recorder.is_whole)
+
+    @with_program
+    def test_a_call_without_files_joins_no_recorded_one(self):
+        said = self.without_files().run({0: [open_line(1), open_line(2)], 20: ["bridge 1 2"]}, 40)
+        self.assertIn("refused 20 bridge 1 2: the calls aren't in one recording", said)
+        status, lines = self.checked(self.folder / "rec")
+        named = "call 2 periods 0 a line is short or missing"
+        self.assertEqual((status, lines[:2]), (1, [named, "call 1 periods 40 equal"]))
 
     @with_program
     def test_calls_that_arent_recorded(self):

@@ -154,8 +154,14 @@ class Gateway:
         self.is_to_end, self.late = False, 0  # turns that were said to be late
         self.busy_until = 0  # the period up to which no call is opened
 
+    def sources(self) -> List[int]:
+        """From where the next line may come: from nowhere, while others wait."""
+        descriptor = self.commands.descriptor
+        waits = self.lines or self.commands.lines
+        return [] if descriptor is None or waits else [descriptor]
+
     def end(self, *_: object) -> None:
-        """Ends the gateway at the next period; for signals."""
+        """Ends the gateway at its next turn; for signals."""
         self.is_to_end = True
 
     def obey(self, line: str, period: int) -> bool:
@@ -203,7 +209,7 @@ class Gateway:
         return f"{state}, {ending}" if ending else state
 
     def begin_period(self, turn: Turn) -> None:
-        """What is done once a period, before its calls."""
+        """What is done before the calls of a period; with the loop, perhaps more than once."""
         late = self.clock.late - self.late
         if turn.period % PERIODS_A_SECOND == 0 and late:
             self.say(f"late {late} latest {self.clock.report() // 1_000_000} ms at {turn.period}")
@@ -312,7 +318,9 @@ def run(options: Options) -> int:
     board = board_of(options, say)
     board.most_descriptors = most_descriptors(0)
     commands = Commands(None if sys.stdin is None else 0)
-    gateway = Gateway(board, PumpClock(board.pump, periods), commands, say)
+    clock = PumpClock(board.pump, periods)
+    gateway = Gateway(board, clock, commands, say)
+    clock.sources = gateway.sources
     begin(board, options.calls)
     heed_signals(gateway)
     gc.collect()

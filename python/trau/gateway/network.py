@@ -1,14 +1,15 @@
-"""The sockets of the calls, and whom they hear. The loop in C reads them at the ticks alone; between
-them the kernel holds what comes.
+"""The sockets of the calls. The loop in C reads them at the ticks alone; between them the kernel holds
+what comes.
 """
 
 from __future__ import annotations
 
 import contextlib
+import select
 import socket
 import struct
 import time
-from typing import Iterator, Optional, Tuple
+from typing import Iterator, Tuple
 
 from trau.gateway.incoming import Incoming
 from trau.gateway.rtcp import Reports, is_control
@@ -27,61 +28,15 @@ ERRORS = 11
 # SO_TIMESTAMPNS of Linux: the kernel says when a datagram came, as RTCP waits up to a second.
 ARRIVAL = 35
 TIME = struct.Struct("@qq")  # seconds and nanoseconds of the system's clock
-KEEPS_PORT = 50  # periods that a port of the peer has to be still before another is heard
 
 
 class Endpoint:
-    """One side of a call: its socket, whom it hears, and where its packets go."""
+    """One side of a call: its peer, and what hears the packets of its socket."""
 
     def __init__(self, side: Side, is_strict: bool, incoming: Incoming) -> None:
         self.peer, self.is_any, self.is_strict = side.peer, side.is_any, is_strict
         self.incoming = incoming
         self.is_connected = is_strict  # its socket, to the peer
-        self.sender: Optional[Address] = None  # that is heard
-        self.candidate: Optional[Address] = None  # to which packets go if it brings another one
-
-    def arrived(self, data: bytes, sender: Address, tick: int, behind: int) -> None:
-        """Takes a datagram, if it is the peer's."""
-        if sender != self.sender:
-            if reason := self.refusal(sender, tick):
-                self.incoming.counts[reason] += 1
-                return
-            self.sender = sender
-        try:
-            is_heard = self.incoming.packet(data, tick, behind)
-        except Exception as failure:  # whatever one call's network brings, the others go on
-            self.incoming.fail("fault", failure)
-            return
-        if is_heard and self.is_any and (self.candidate or sender != self.peer):
-            self.follow(sender)
-
-    def follow(self, sender: Address) -> None:
-        """A packet of this sender is of the source that is heard. After two of them in a row packets
-        go there (symmetric RTP, RFC 4961), wherever `open` has the peer: its address may be
-        translated on the way."""
-        if sender == self.peer:
-            self.candidate = None
-        elif sender == self.candidate:
-            self.peer, self.candidate = sender, None
-            self.incoming.counts["moved"] += 1
-        else:
-            self.candidate = sender
-
-    def outdated(self, data: bytes, sender: Address) -> None:
-        """Drops a datagram of time that was given up."""
-        if sender == self.sender:
-            self.incoming.drop(data)
-        else:
-            self.incoming.counts["given-up"] += 1
-
-    def refusal(self, sender: Address, tick: int) -> str:
-        """Why another sender than before isn't heard; empty if it is."""
-        heard = self.incoming.heard
-        if not self.is_any and sender[0] != self.peer[0] or self.is_strict and sender != self.peer:
-            return "stranger"
-        if self.sender and heard is not None and tick - heard < KEEPS_PORT:
-            return "other-port" if sender[0] == self.sender[0] else "stranger"
-        return ""
 
 
 def prepare(one: socket.socket, buffer: int) -> None:
@@ -168,6 +123,9 @@ class SocketEndpoint(Endpoint):
                 self.socket.setsockopt(socket.IPPROTO_IP, ERRORS, 1)
             self.opened = opened.pop_all()
         self.dropped = 0  # strangers that found no room
+        self.rest = select.poll()  # the sockets that Python reads
+        for one in (self.control, self.others) if is_strict else (self.control,):
+            self.rest.register(one, select.POLLIN)
 
     def count_losses(self) -> None:
         """Counts what found no room, and in a strict call what others sent, or the peer to another
@@ -178,7 +136,7 @@ class SocketEndpoint(Endpoint):
             return
         before, self.dropped = self.dropped, drops_of(self.others)
         counts["stranger"] += self.dropped - before
-        for _ in range(MOST_CONTROL):
+        for _ in range(MOST_CONTROL if self.rest.poll(0) else 0):
             try:
                 _, sender = self.others.recvfrom(1)
             except BlockingIOError:
@@ -205,8 +163,9 @@ class SocketEndpoint(Endpoint):
     def report(self, reports: Reports, period: int) -> None:
         """Counts the RTCP that came, and answers the peer's reports by one."""
         try:
-            self.answer(reports, period)
-        except Exception as failure:  # as in `arrived`
+            if self.rest.poll(0):
+                self.answer(reports, period)
+        except Exception as failure:  # whatever one call's network brings, the others go on
             self.incoming.fail("fault", failure)
 
     def answer(self, reports: Reports, period: int) -> None:

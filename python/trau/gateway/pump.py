@@ -7,13 +7,15 @@ in one order, so an order is recorded before the first octet of its period, as w
 
 from __future__ import annotations
 
+import contextlib
 import ctypes
 import os
+import select
 import socket
 import struct
 from collections import deque
 from pathlib import Path
-from typing import Any, Deque, Dict, Iterator, List, Optional, Tuple, Type
+from typing import Any, Callable, Deque, Dict, Iterator, List, Optional, Tuple, Type
 
 from trau.command_line.words import Refusal
 from trau.gateway.calls import LiveCall
@@ -41,12 +43,14 @@ REASONS = (
     "taken not-rtp rtcp other-type empty odd-size too-long probation given-up far doubled late"
     " new-source jumps off-the-grid slips-on slips-back packets missing"
 ).split()
-ENDS = "stranger", "other_port", "given_up", "unreachable", "unsent", "moved"
-COUNTED = [*REASONS[1:], *(name.replace("_", "-") for name in ENDS)]
+ENDS = "stranger", "other-port", "given-up", "unreachable", "unsent", "moved"
+UNSENT = ENDS.index("unsent")
+COUNTED = [*REASONS, *ENDS]
 PERIODS = "speech", "descriptor", "invalid", "not-gsm", "no-gsm", "no-pcm"
 MOST_COMMANDS = 1024  # that may wait, besides one for each slot
 FOREVER = 0xFFFFFFFF  # a period that never comes
-RECORD = sum(OCTETS_OF_SIDE[side] for side in SIDES)  # octets of a period of all lines
+SIZES = [OCTETS_OF_SIDE[side] for side in SIDES]  # octets of a period of each line
+RECORD = sum(SIZES)  # and of all of them
 
 _u8, _u16, _u32, _i16, _i32, _i64 = (
     ctypes.c_uint8,
@@ -74,7 +78,7 @@ CoreReports = _structure(
     was_heard=_u8,
 )
 _EndCounts = _structure(
-    "_EndCounts", **dict.fromkeys(ENDS, _u32), failure=_i32, host=_u8 * 4, port=_u8 * 2
+    "_EndCounts", counts=_u32 * len(ENDS), failure=_i32, host=_u8 * 4, port=_u8 * 2
 )
 Report = _structure("Report", core=CoreReports * 2, ends=_EndCounts * 2, held_up=_u32)
 _Command = _structure("_Command", verb=_u32, slot=_u32, other=_u32, phase=_u32, level=_i16, dtx=_u8)
@@ -114,7 +118,7 @@ _FUNCTIONS: Dict[str, Tuple[Any, ...]] = {  # the result, then the arguments
     "pump_start": (ctypes.c_int, _pointer, _u32, ctypes.c_int),
     "pump_stop": (_u32, _pointer),
     "pump_state": (None, _pointer, _pointer),
-    "pump_execute": (None, _pointer, _u32),
+    "pump_execute": (ctypes.c_bool, _pointer, _u32),
     "pump_process": (None, _pointer, _pointer),
     "pump_give_up": (None, _pointer, _pointer),
     "pump_arrived": (None, _pointer, _u32, _u32, _text, ctypes.c_size_t, _u32, _u16, _pointer),
@@ -165,8 +169,9 @@ class Pump:
     def __init__(self, library: ctypes.CDLL, slots: int, every: int) -> None:
         """Room for so many calls at a time, and for records as long as the recorder has it."""
         self.library, self.every = library, every
-        self.wakes, self.waker = os.pipe()  # the loop writes to it in each period
-        os.set_blocking(self.waker, False)
+        self.wakes, self.waker = os.pipe()  # the loop writes to it when Python is to look
+        for end in (self.wakes, self.waker):
+            os.set_blocking(end, False)
         blocks = slots + MOST_WAITING // (RECORD * every)
         self.pump = library.pump_new(slots, every, blocks, slots + MOST_COMMANDS)
         if not self.pump:
@@ -204,9 +209,9 @@ class Pump:
     def lines(self, number: int) -> Tuple[int, Tuple[bytes, bytes, bytes, bytes]]:
         """The slot of a block, and its lines. The block goes back."""
         block = self.library.pump_block_of(self.pump, number).contents
-        at, parts = block.octets, []
-        for size in (OCTETS_OF_SIDE[side] for side in SIDES):
-            parts.append(ctypes.string_at(at, size * block.periods))
+        at, periods, parts = block.octets, block.periods, []
+        for size in SIZES:
+            parts.append(ctypes.string_at(at, size * periods))
             at += size * self.every
         slot = block.slot
         self.library.pump_return_block(self.pump, number)
@@ -242,13 +247,14 @@ class Pump:
 
 
 class PumpClock(Clock):
-    """The clock of the loop: a turn for each period that Python sees, which is the next one that a
-    line may be executed in."""
+    """The clock of the loop: a turn whenever the loop has answered or a line has come, and in each
+    fifth period. Its period is the next one that a line may be executed in."""
 
     def __init__(self, pump: Pump, until: Optional[int]) -> None:
         super().__init__()
         self.pump, self.until = pump, until
         self.percent = 0
+        self.sources: Callable[[], List[int]] = lambda: []  # from which a line may come
 
     def load(self) -> int:
         """The share of its time, in per cent, in which the loop didn't wait."""
@@ -267,7 +273,9 @@ class PumpClock(Clock):
         """The turns without end."""
         self.pump.start(self.until)
         while True:
-            os.read(self.pump.wakes, 4096)
+            select.select([self.pump.wakes, *self.sources()], [], [])
+            with contextlib.suppress(BlockingIOError):
+                os.read(self.pump.wakes, 4096)
             yield self.look()
 
 
@@ -303,7 +311,7 @@ class PumpCall(LiveCall):
                 core.packets,
                 core.octets,
             )
-            if end.unsent:
+            if end.counts[UNSENT]:
                 incoming.faults["unsent"] = os.strerror(end.failure)
         counts = dict(zip(PERIODS, report.core[0].periods))
         counts["held-up"] = report.held_up
@@ -312,7 +320,7 @@ class PumpCall(LiveCall):
     def take_counts(self, side: str, incoming: Incoming, core: Any, end: Any) -> None:
         """Adds what the counts of a side have risen by; they go on modulo 2^32, and `missing` may
         fall."""
-        now = [*core.counts[1:], *(getattr(end, name) for name in ENDS)]
+        now = [*core.counts, *end.counts]
         before, self.reported[side] = self.reported[side], now
         if now == before:  # as mostly
             return
@@ -434,7 +442,9 @@ class PumpBoard(Switchboard):
             assert isinstance(connection.call, PumpCall)
             connection.call.take(report)
             for endpoint, end in zip(map(connection.endpoints.__getitem__, NAMES), report.ends):
-                endpoint.peer = socket.inet_ntoa(bytes(end.host)), int.from_bytes(end.port, "big")
+                if endpoint.is_any:  # another's packets go where they went
+                    host, port = socket.inet_ntoa(bytes(end.host)), int.from_bytes(end.port, "big")
+                    endpoint.peer = host, port
 
         self.pump.works[-1].append(take)
 

@@ -133,7 +133,7 @@ class Recorder:
         self.without: Dict[int, str] = {}  # calls whose lines couldn't be made, and why
         self.held: Dict[int, List[Period]] = {}
         self.down: Dict[int, bytes] = {}  # that a call's Down has next
-        self.due: List[int] = []  # calls of which enough is held for a write
+        self.due: List[Tuple[int, List[Period]]] = []  # what is to be written, of which calls
         self.used: Set[int] = set()  # numbers of calls: each serves once
         self.orders = self.order_octets = 0
         self.opened = self.closed = 0  # calls, by the two threads
@@ -319,30 +319,32 @@ class Recorder:
     def period(self, call: int, period: Period) -> None:
         """Holds a period of a call. It is written by `write`, after the packets of all calls have
         left."""
-        held = self.held[call]
-        held.append(period)
-        if len(held) >= self.every:
-            self.due.append(call)
+        self.held[call].append(period)
+        if len(self.held[call]) >= self.every:
+            self.take_held(call)
+
+    def take_held(self, call: int) -> None:
+        """What is held of a call is due."""
+        if self.held[call]:
+            self.due.append((call, self.held[call]))
+        self.held[call] = []
 
     def block(self, call: int, lines: Period) -> None:
         """Takes some periods of a call at once, which are due."""
-        self.held[call].append(lines)
-        self.due.append(call)
+        self.due.append((call, [lines]))
 
     def write(self) -> None:
-        """Writes what is held of the calls that are due: one write for each line, as a kill hardly
-        comes within one."""
+        """Writes what is due: one write for each line, as a kill hardly comes within one, and in the
+        order in which it became due, so that a kill leaves all calls with about the same periods.
+        """
         if self.due:
-            written = [
-                (self.descriptors[call], self.lines(call)) for call in self.due if self.held[call]
-            ]
+            written = [(self.descriptors[call], self.lines(call, held)) for call, held in self.due]
             self.due = []
             octets = sum(len(line) for _, lines in written for line in lines)
             self.attempt(octets, lambda: write_lines(written))
 
-    def lines(self, call: int) -> List[bytes]:
-        """Takes what is held of a call, as four parts of its lines."""
-        held, self.held[call] = self.held[call], []
+    def lines(self, call: int, held: List[Period]) -> List[bytes]:
+        """Periods of a call as four parts of its lines."""
         up, pcm, down, out = (b"".join(parts) for parts in zip(*held))
         down = self.down[call] + down
         self.down[call] = down[-FRAME_OCTETS:]
@@ -350,7 +352,7 @@ class Recorder:
 
     def close(self, call: int) -> None:
         """Writes what is held of a call and closes its lines."""
-        self.due.append(call)
+        self.take_held(call)
         self.write()
         del self.held[call], self.down[call]
         descriptors = self.descriptors.pop(call)

@@ -120,12 +120,16 @@ def short_ones(calls: List[Recorded], slack: int) -> List[Recorded]:
 
 
 def lay(folder: Path, again: Path, calls: List[Recorded]) -> None:
-    """Puts links to the incoming lines into the folder of the replay, which may be on another disk."""
+    """Puts links to the incoming lines into the folder of the replay, which may be on another disk.
+    A call whose files couldn't be made has empty lines there, so that the run goes on without it.
+    """
     for call in calls:
         for side in INCOMING:
             line = folder / f"{call.number}.{side}"
             if line.exists():
                 (again / line.name).symlink_to(line.resolve())
+            else:
+                (again / line.name).touch()
 
 
 def replayed(program: str, again: Path, orders: List[Order], end: Optional[int]) -> str:

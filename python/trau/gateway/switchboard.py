@@ -44,8 +44,8 @@ DESCRIPTORS_OF_CALL = SOCKETS_OF_CALL + len(SIDES)
 DESCRIPTORS_OF_REST = 64  # a recording, the next one, and what else the process has
 Say = Callable[[str], None]
 Work = Callable[[int], object]  # that is done with the period in which a line is in force
-Seen = Tuple[Optional[int], Counter[str]]  # when a side was heard last, and its counts then
-NEVER_SEEN: Seen = (None, Counter())
+Seen = Tuple[Optional[int], Dict[str, int]]  # when a side was heard last, and its counts then
+NEVER_SEEN: Seen = (None, {})
 
 
 class TooSoon(Refusal):
@@ -71,6 +71,11 @@ class Connection:
     noted: Dict[str, int] = field(default_factory=dict)  # counts up to the last events
     seen: Dict[str, Seen] = field(default_factory=dict)  # by sides
 
+    @property
+    def has_files(self) -> bool:
+        """Whether its lines are written, if it is recorded."""
+        return not self.recorder.ending_of(self.call.number)
+
     def take_events(self) -> str:
         """What the network did since this was called last: counts that rose."""
         counts = {
@@ -79,6 +84,8 @@ class Connection:
             for name, count in stream.faults().items()
         }
         before, self.noted = self.noted, counts
+        if counts == before:  # as mostly
+            return ""
         risen = {
             name: count - before.get(name, 0)
             for name, count in counts.items()
@@ -93,12 +100,12 @@ class Connection:
         incoming = self.call.sides[side].incoming
         heard, _ = self.seen.get(side, NEVER_SEEN)
         if heard != incoming.heard:
-            self.seen[side] = incoming.heard, Counter(incoming.counts)
+            self.seen[side] = incoming.heard, dict(incoming.counts)
 
     def most_refused(self, side: str) -> str:
         """What was refused most since a side was heard; empty if nothing was."""
         _, counts = self.seen.get(side, NEVER_SEEN)
-        risen = self.call.sides[side].incoming.counts - counts
+        risen = self.call.sides[side].incoming.counts - Counter(counts)
         return next(
             (f": {reason} {count}" for reason, count in risen.most_common() if reason in REFUSED),
             "",
@@ -329,7 +336,7 @@ class Switchboard:
             raise refusal(OrderRefusal.BRIDGED)
         if period <= max(one.call.parted, other.call.parted):
             raise refusal(OrderRefusal.DRAINING)
-        if one.recorder is not other.recorder:
+        if one.recorder is not other.recorder or one.has_files != other.has_files:
             raise Refusal("the calls aren't in one recording")
         self.hold_to_room(one.recorder)
         begun = self.pair(one.call, other.call)
@@ -439,10 +446,10 @@ class Switchboard:
 
     def look_after(self, period: int) -> None:
         """Looks after each call and the disk once a second, and writes the time once an hour."""
-        for connection in self.connections.values():
-            if (period - connection.call.number) % SECOND == 0:
-                self.ask(connection)
-                self.when_done(period, partial(self.look_after_call, connection))
+        numbers = range(period % SECOND, MOST_CALLS + 1, SECOND)
+        for connection in filter(None, map(self.connections.get, numbers)):
+            self.ask(connection)
+            self.when_done(period, partial(self.look_after_call, connection))
         if period % SECOND == 0:
             for recorder in self.recorders + self.ended:
                 recorder.look_after(period)

@@ -1,9 +1,9 @@
-"""Debian packages of the files that a tarball has, made by dpkg-deb: `trau`, and of the C library
-`libtrau-fr1` and `libtrau-fr-dev`.
+"""Debian packages of the files that a tarball has, made by dpkg-deb: `trau`, and of each C library
+the one that programs need and the one that compilers need, as `libtrau-fr1` and `libtrau-fr-dev`.
 
 What runs lies below /usr/lib/trau, with links in /usr/bin; documents lie below /usr/share/doc/trau.
-The C library lies where the system's loader and compilers look for it, and libgsm's interface in a
-folder of its own beside it, so that no program takes it unasked.
+The C libraries lie where the system's loader and compilers look for them, and libgsm's interface in
+a folder of its own beside them, so that no program takes it unasked.
 """
 
 import gzip
@@ -65,30 +65,17 @@ PROGRAM_DESCRIPTION = """GSM transcoder and rate adaptor unit, on recorded lines
  What it writes is proved: however many threads work the calls, it is octet
  for octet what a definition gives for its input."""
 
-LIBRARY = """Source: trau
+SHARED = """Source: trau
 Depends: libc6 (>= 2.14)
 Multi-Arch: same
 Section: libs"""
 
-CODEC_DESCRIPTION = """\
- Encodes and decodes GSM 06.10 full rate speech, packs its frames in 33 octets
- (RTP, files of libgsm) and in pairs of 65 (WAV49), and expands and compresses
- A-law and mu-law. Each of its functions is proved: it gives what a definition
- says, allocates nothing, and reads and writes what it is passed alone."""
-
-LIBRARY_DESCRIPTION = f"""GSM full rate codec in integer arithmetic, proved
-{CODEC_DESCRIPTION}
- .
- In the folder trau-gsm beside it there is a library with libgsm's interface,
- on which programs of libgsm run unchanged."""
-
 HEADERS = """Source: trau
-Depends: libtrau-fr1 (= {version})
+Depends: {shared} (= {version})
 Multi-Arch: same
 Section: libdevel"""
 
-HEADERS_DESCRIPTION = f"""GSM full rate codec, proved: header and static library
-{CODEC_DESCRIPTION}
+HEADERS_PARAGRAPH = """
  .
  This package has the header, the static library and the file of pkg-config."""
 
@@ -112,7 +99,54 @@ find /usr/lib/trau/python -name __pycache__ -prune -exec rm -rf {} +
 
 # What dpkg does once a library has come, and how packages that are built with it depend on it.
 TRIGGERS = "activate-noawait ldconfig\n"
-SHLIBS = "libtrau_fr 1 libtrau-fr1 (>= {version})\n"
+SHLIBS = "lib{name} 1 {shared} (>= {version})\n"
+
+
+class Library(NamedTuple):
+    """A C library: its name, what shared libraries its package has (a pattern), and what is said of
+    it, and of what its package has beside it."""
+
+    name: str
+    built: str
+    synopsis: str
+    description: str
+    beside: str = ""
+
+    def shared(self) -> str:
+        """The name of the package of the shared library."""
+        return f"lib{self.name.replace('_', '-')}1"
+
+    def headers(self) -> str:
+        """The name of the package of the header."""
+        return f"lib{self.name.replace('_', '-')}-dev"
+
+
+CODEC = Library(
+    "trau_fr",
+    "trau_fr|gsm",
+    "GSM full rate codec in integer arithmetic, proved",
+    """
+ Encodes and decodes GSM 06.10 full rate speech, packs its frames in 33 octets
+ (RTP, files of libgsm) and in pairs of 65 (WAV49), and expands and compresses
+ A-law and mu-law. Each of its functions is proved: it gives what a definition
+ says, allocates nothing, and reads and writes what it is passed alone.""",
+    """
+ .
+ In the folder trau-gsm beside it there is a library with libgsm's interface,
+ on which programs of libgsm run unchanged.""",
+)
+CALL = Library(
+    "trau_call",
+    "trau_call",
+    "live GSM full rate calls over RTP, proved",
+    """
+ Carries a call between a base station (GSM full rate) and an exchange (A-law or
+ mu-law) over RTP, for a program that has the sockets and the clock: jitter
+ buffers, lost frames, pauses, bridges, and records of which trau makes again
+ what was sent. Each of its functions is proved: whatever datagrams come, it
+ gives what a definition says.""",
+)
+C_LIBRARIES = CODEC, CALL
 
 
 class Package(NamedTuple):
@@ -220,47 +254,50 @@ def program(files: Dict[str, bytes]) -> Package:
     return Package("trau", PROGRAM, PROGRAM_DESCRIPTION, found, links(found), control)
 
 
-def symbols(header: str, version: str) -> str:
+def symbols(library: Library, header: str, version: str) -> str:
     """The functions of the library, each since this version, as dpkg-shlibdeps reads them."""
     names = sorted(set(re.findall(r"\b(trau_\w+)\(", re.sub(r"/\*.*?\*/", "", header, flags=re.S))))
-    each = "".join(f" {name}@TRAU_FR_1 {version}\n" for name in ["TRAU_FR_1", *names])
-    return f"libtrau_fr.so.1 libtrau-fr1 (>= {version})\n{each}"
+    node = f"{library.name.upper()}_1"
+    each = "".join(f" {name}@{node} {version}\n" for name in [node, *names])
+    return f"lib{library.name}.so.1 {library.shared()} (>= {version})\n{each}"
 
 
-def shared_library(files: Dict[str, bytes], version: str) -> Package:
-    """The package of the shared library, and of libgsm's interface beside it."""
-    shared = re.compile(r"lib/(.*\.so\.1)")
-    of_others = (each for each in files.items() if not f"{BUILT}{each[0]}".startswith(LOOP))
-    matches = ((shared.fullmatch(name), content) for name, content in of_others)
+def shared_library(library: Library, files: Dict[str, bytes], version: str) -> Package:
+    """The package of the shared library, with libgsm's interface where that is built of it."""
+    shared = re.compile(rf"lib/((?:.*/)?lib(?:{library.built})\.so\.1)")
+    matches = ((shared.fullmatch(name), content) for name, content in files.items())
     found = {f"{LIBRARIES}/{match[1]}": content for match, content in matches if match}
-    header = files["include/trau_fr.h"].decode()
+    header = files[f"include/{library.name}.h"].decode()
     control = {
         "triggers": TRIGGERS,
-        "shlibs": SHLIBS.format(version=version),
-        "symbols": symbols(header, version),
+        "shlibs": SHLIBS.format(name=library.name, shared=library.shared(), version=version),
+        "symbols": symbols(library, header, version),
     }
-    return Package("libtrau-fr1", LIBRARY, LIBRARY_DESCRIPTION, found, {}, control)
+    description = library.synopsis + library.description + library.beside
+    return Package(library.shared(), SHARED, description, found, {}, control)
 
 
-def development(files: Dict[str, bytes], page: bytes, version: str) -> Package:
-    """The package of the header and of what a compiler needs beside it, with the library's page."""
+def development(library: Library, files: Dict[str, bytes], page: bytes, version: str) -> Package:
+    """The package of the header and of what a compiler needs beside it, with the libraries' page."""
+    name = library.name
     paths = (
-        files["lib/pkgconfig/trau_fr.pc"]
+        files[f"lib/pkgconfig/{name}.pc"]
         .decode()
         .replace("prefix=${pcfiledir}/../..", "prefix=/usr")
     )
     found = {
-        "usr/include/trau_fr.h": files["include/trau_fr.h"],
-        f"{LIBRARIES}/libtrau_fr.a": files["lib/libtrau_fr.a"],
-        f"{LIBRARIES}/pkgconfig/trau_fr.pc": paths.replace(
+        f"usr/include/{name}.h": files[f"include/{name}.h"],
+        f"{LIBRARIES}/lib{name}.a": files[f"lib/lib{name}.a"],
+        f"{LIBRARIES}/pkgconfig/{name}.pc": paths.replace(
             "libdir=${prefix}/lib\n", f"libdir=/{LIBRARIES}\n"
         ).encode(),
-        "usr/share/doc/libtrau-fr-dev/LIBRARY.md": page,
+        f"usr/share/doc/{library.headers()}/LIBRARY.md": page,
     }
-    link = {f"{LIBRARIES}/libtrau_fr.so": "libtrau_fr.so.1"}
-    return Package(
-        "libtrau-fr-dev", HEADERS.format(version=version), HEADERS_DESCRIPTION, found, link
-    )
+    link = {f"{LIBRARIES}/lib{name}.so": f"lib{name}.so.1"}
+    fields = HEADERS.format(shared=library.shared(), version=version)
+    description = f"{library.synopsis}: header and static library"
+    description += library.description + HEADERS_PARAGRAPH
+    return Package(library.headers(), fields, description, found, link)
 
 
 def lay(root: Path, files: Dict[str, bytes], links: Dict[str, str]) -> None:
@@ -325,16 +362,16 @@ def packed(package: Package, author: str, seconds: int) -> Tuple[str, bytes]:
 
 
 def packages(files: Dict[str, bytes], author: str, seconds: int) -> Dict[str, bytes]:
-    """The packages of these files by their names: the program's, and those of the C library where
-    it is among the files."""
+    """The packages of these files by their names: the program's, and those of the C libraries where
+    they are among the files."""
     version = versions()[0][0]
     made = [program(files)]
-    library = {
+    of_libraries = {
         name[len(BUILT) :]: content for name, content in files.items() if name.startswith(BUILT)
     }
-    if library:
+    for library in C_LIBRARIES if of_libraries else ():
         made += [
-            shared_library(library, version),
-            development(library, files["docs/LIBRARY.md"], version),
+            shared_library(library, of_libraries, version),
+            development(library, of_libraries, files["docs/LIBRARY.md"], version),
         ]
     return dict(packed(package, author, seconds) for package in made)

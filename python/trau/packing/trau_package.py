@@ -1,5 +1,5 @@
 """Packs the proved program: a tarball with the program for x86-64-v2 and for x86-64-v3, the scripts, man pages, word completion for bash,
-the documents, the examples, the Python package with its commands, the C library, SHA256SUMS and a script `install`. With --deb it makes
+the documents, the examples, the Python package with its commands, the C libraries, SHA256SUMS and a script `install`. With --deb it makes
 Debian packages too. The installed program needs only the system's C library; the other commands need Python 3.
 
 tools/build.py proves and builds the programs, and clib/build the library; both come first if a source changed. If TRAU_PROGRAM names the program,
@@ -33,18 +33,20 @@ PROGRAM = TOP / "crates" / "trau_program" / "out" / "trau_program"
 # kind.
 FIRST, KIND = "x86-64-v2", "x86-64-v3"
 
-# What clib/build makes, and the script that starts programs of libgsm on it.
+# What clib/build makes: the folder, and its files, first those of each library.
 LIBRARY = TOP / "clib" / "out"
 V3 = "glibc-hwcaps/x86-64-v3"
+FILES_OF_LIBRARY = (
+    "include/{name}.h",
+    "lib/lib{name}.a",
+    "lib/lib{name}.so",
+    "lib/lib{name}.so.1",
+    f"lib/{V3}/lib{{name}}.so.1",
+    "lib/pkgconfig/{name}.pc",
+)
 LIBRARY_FILES = (
-    *(
-        "include/trau_fr.h",
-        "lib/libtrau_fr.a",
-        "lib/libtrau_fr.so",
-        "lib/libtrau_fr.so.1",
-        f"lib/{V3}/libtrau_fr.so.1",
-    ),
-    *("lib/trau-gsm/libgsm.so.1", f"lib/trau-gsm/{V3}/libgsm.so.1", "lib/pkgconfig/trau_fr.pc"),
+    *(file.format(name=each.name) for each in trau_deb.C_LIBRARIES for file in FILES_OF_LIBRARY),
+    *("lib/trau-gsm/libgsm.so.1", f"lib/trau-gsm/{V3}/libgsm.so.1"),
     *("lib/trau-gateway/libtrau_pump.so.1", f"lib/trau-gateway/{V3}/libtrau_pump.so.1"),
 )
 

@@ -12,7 +12,6 @@ from typing import Dict, Iterable, List, NamedTuple, Sequence, Tuple
 from trau.rules import profile
 from trau.command_line.words import Words
 from trau.command_line.ends import tool
-from trau.command_line.word_faults import grouped
 
 NAME = "trau"
 PURPOSE = "the GSM transcoder and rate adaptor unit, on recorded lines"
@@ -272,8 +271,7 @@ def rows_of(options: Iterable[Option]) -> List[Tuple[str, str]]:
     """Options, and what they mean with the ranges of their values."""
 
     def said(values: profile.OptionRange) -> str:
-        least, most, default = map(grouped, (values.least, values.most, values.default))
-        return f"{least} to {most}, else {default}"
+        return f"{values.least:,} to {values.most:,}, else {values.default:,}"
 
     return [(f"{option.name} N", f"{option.means} ({said(option.values)})") for option in options]
 
@@ -333,7 +331,7 @@ def page(command: Command) -> str:
     if CALL in command.words.split():
         lines += [
             "",
-            f"C is a call's number, 1 to {grouped(command.last_call)}, in decimal digits without leading zeros.",
+            f"C is a call's number, 1 to {command.last_call:,}, in decimal digits without leading zeros.",
         ]
     if "ORDERS" in command.words or "MARKED" in command.words:
         lines += ["", *folded(NOTE_ON_ORDERS, ""), "", *table(ORDERS)]
