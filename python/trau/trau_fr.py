@@ -163,12 +163,6 @@ def _load() -> ctypes.CDLL:
 
 _library = _load()
 
-
-def library_name() -> str:
-    """The name of the library's file, or the one by which the system found it."""
-    return str(_library._name)
-
-
 _EXPAND = {"alaw": _library.trau_alaw_expand, "mulaw": _library.trau_mulaw_expand}
 _COMPRESS = {"alaw": _library.trau_alaw_compress, "mulaw": _library.trau_mulaw_compress}
 _KINDS: Tuple[Kind, ...] = tuple(Kind.__members__.values())

@@ -14,14 +14,16 @@ from typing import Dict, List, Set, Tuple
 from boxes import Given, Side, box, pcm, speech, uplink
 from turned import RECEIVING, REFUSED_LATE, SENDING, SUSPECTED, TurnedBox
 
-from trau.model.codec import FullRateDecoder
+from trau.model.codec import FullRateDecoder, Trace
 from trau.rules.frame import bits_of, octets_of
 from trau.rules.g711 import Law, compress_all, expand_all
 from trau.suite import check
+from trau.suite.box_analysis import turned_stage
 from trau.suite.box_decoder import HOME, STANDARD, decode
 from trau.suite.box_delay import NotSure
+from trau.suite.box_encoder import Difference, Followed, Stage
 from trau.suite.box_findings import Findings
-from trau.suite.box_laws import CONVENTIONS, OURS, ranges_of
+from trau.suite.box_laws import CONVENTIONS, Convention, ranges_of
 from trau.suite.box_receive_side import ReceiveSide
 from trau.suite.box_send_side import judge_send, judge_shifts
 from trau.suite.box_uplink import up_periods
@@ -275,10 +277,23 @@ class Parts(unittest.TestCase):
                     self.assertIn(
                         count, (1, 2) if abs(sample) < 16 else (1,), (law, convention, sample)
                     )
-            ours = ranges_of(law, OURS)
+            ours = ranges_of(law, Convention(has_upper=True, more_below=0))
             for sample in range(-32768, 32768, 8):
                 first, last = ours[compress_all(law, [sample])[0]]
                 self.assertTrue(first <= sample <= last)
+
+    def test_a_stage_that_differs_nearly_alone(self) -> None:
+        """Of a turned decision level, beside frames whose state was taken for known too early."""
+
+        def frame(*stages: Stage) -> Followed:
+            differences = [Difference(stage, 1, 1, 0) for stage in stages]
+            return Followed(differences, True, True, Trace((), ()), 0, [])
+
+        gains = [frame(Stage.GAIN)] * 11
+        others = [frame(Stage.LAG), frame(Stage.MAXIMUM, Stage.PULSES), frame(Stage.PULSES)]
+        self.assertEqual(turned_stage(gains + others), "encoder.lag-gain")
+        self.assertIsNone(turned_stage(gains + 3 * others))
+        self.assertIsNone(turned_stage(17 * [frame(Stage.PULSES)] + others))
 
     def test_recorded_rules_quote_the_page(self) -> None:
         page = " ".join(FILES.read_text(encoding="utf-8").split())

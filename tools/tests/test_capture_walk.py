@@ -6,9 +6,10 @@ import random
 import struct
 import unittest
 
+from captured_packets import CapturedPacket, packets
 from support import DATA
 
-from trau.recordings.capture_walk import BrokenCapture, CapturedPacket, packets
+from trau.recordings.capture_walk import BrokenCapture
 
 SEED = 3
 FIRST = b"\x45" * 60

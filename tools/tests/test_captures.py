@@ -12,6 +12,7 @@ from collections import Counter
 from unittest import mock
 
 import test_capture_walk
+from captured_packets import packets
 from support import DATA, EXAMPLES, TOOLS, InFolder, frames_of_downlink
 from test_capture_walk import enhanced, interface, option, section
 
@@ -21,7 +22,6 @@ from trau.recordings import code_word
 from trau.recordings import lines
 from trau.recordings import rtp_walk, udp_layers
 from trau.recordings import uplink_frames
-from trau.recordings.capture_walk import packets
 from capture_files import HAS_DPKT, InCaptures, fields, rewritten, kinds_of
 from trau.rules.frame import FrameKind, bits_of, read_down
 from trau.rules.g711 import Law, samples_by_octet

@@ -65,7 +65,8 @@ class LostOctets(unittest.TestCase):
         """The line's frames but few are found; what follows the loss is what the line has there."""
         reader = LineReader(signal_way(octets[: 1 << 17]))
         found = list(reader.blocks(blocks_of(octets, 70_001)))
-        self.assertEqual(reader.breaks, 1)
+        (place,) = reader.breaks
+        self.assertLess(abs(32 * place - lost_at), 300)
         anew = [at for at, block in enumerate(found) if block.is_anew]
         self.assertEqual((len(anew), anew[0]), (2, 0))
         before = b"".join(block.octets for block in found[: anew[1]])
@@ -98,7 +99,7 @@ class LostOctets(unittest.TestCase):
         reader = LineReader(signal_way(bytes(line[: 1 << 17])))
         found = list(reader.blocks(blocks_of(bytes(line), 70_001)))
         self.assertEqual(
-            (reader.breaks, b"".join(block.octets for block in found)), (0, bytes(line))
+            (reader.breaks, b"".join(block.octets for block in found)), ([], bytes(line))
         )
 
     def test_a_line_that_is_gone(self):
@@ -108,7 +109,7 @@ class LostOctets(unittest.TestCase):
         reader = LineReader(signal_way(bytes(line[: 1 << 17])))
         found = list(reader.blocks(blocks_of(bytes(line), 70_001)))
         self.assertEqual(
-            (reader.breaks, b"".join(block.octets for block in found)), (0, bytes(line))
+            (reader.breaks, b"".join(block.octets for block in found)), ([], bytes(line))
         )
 
 

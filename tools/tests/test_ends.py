@@ -133,6 +133,7 @@ class Ends(InFolder):
         wanted = ": File too large\n"
         for line, octets, name in (
             (f"lines.py uplink {DATA}/speech.gsm {{}}/9.up", 100, "9.up"),
+            (f"lines.py unpack {DATA}/osmo.pcap {{}}/calls", 100, "calls"),
             ("timeline.py {} {}/run.svg", 100, "run.svg"),
             ("orders.py strip {}/orders.txt {}/stripped.txt", 100, "stripped.txt"),
             ("shard.py cut {} {}/cut --parts 2", 10, "cut/0/orders.txt"),

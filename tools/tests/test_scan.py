@@ -4,10 +4,12 @@
 import csv
 import io
 import json
+import os
 import random
 import struct
 import unittest
 
+import capture_files
 import e1_lines
 from capture_files import HAS_DPKT
 from support import DATA, EXAMPLES, InFolder
@@ -96,11 +98,29 @@ class OfLines(Scans):
         first = len(VOICE) - len(VOICE.lstrip(b"\xd5"))
         self.assertAlmostEqual(float(rows[2]["start"]), (24000 + first) / 8000, delta=0.06)
 
+    def test_without_the_signal_from_any_pair_of_bits(self):
+        """Frames show an even number of bits too few; the laws of other slots show the rest."""
+        line, wanted = busy_line()
+        octets = bytearray(line)
+        octets[::32] = b"\xff" * len(octets[::32])
+        for slot in range(17, 24):
+            octets[slot::32] = octets[9::32]
+        for bits, is_turned in ((3, True), (6, False)):
+            name = self.path("line.e1", e1_lines.recorded(bytes(octets), bits, is_turned))
+            rows = self.scan(name)
+            for row in rows:  # the first whole octet is of slot 1
+                row["slot"] = str((int(row["slot"]) + 1) % 32)
+            self.assert_line(rows, wanted)
+            laws = {row["slot"] for row in rows if row["kind"] == "alaw"}
+            self.assertEqual(laws, {"9", *map(str, range(17, 24))})
+
     def test_octets_lost_in_its_middle(self):
         line, wanted = busy_line()
         name = self.path("line.e1", line[:2_000_000] + line[2_000_333:])
         status, out, err = self.run_tool(lines.main, "scan", name, "--csv")
-        self.assertEqual((status, err), (0, f"{name}: octets were lost or gained, times 1\n"))
+        self.assertEqual(
+            (status, err), (0, f"{name}: octets were lost or gained, times 1, at 7.812 s\n")
+        )
         calls = [row for row in csv.DictReader(io.StringIO(out)) if row["kind"] == "uplink"]
         calls.sort(key=lambda row: (row["slot"], row["channel"], float(row["start"])))
         self.assertEqual(len(calls), len(wanted))
@@ -150,6 +170,10 @@ class OfLines(Scans):
 
     def test_refused(self):
         self.assert_refused(lines.main, ["scan", "-"], "standard input")
+        pipe = self.folder / "pipe"
+        os.mkfifo(pipe)
+        for words in (["scan", pipe], ["unpack", pipe, self.folder / "calls"]):
+            self.assert_refused(lines.main, words, "pipe: isn't a file; a recording is read twice")
         self.assert_refused(lines.main, ["scan", self.path("none", b"")], "holds no octets")
         up = self.path("1.up", e1_lines.uplink(100))
         self.assert_refused(lines.main, ["scan", up], "an uplink, its first frame at bit 0")
@@ -177,6 +201,48 @@ class OfCaptures(Scans):
     def test_a_dynamic_type(self):
         row = self.scan(DATA / "gstreamer.pcap", "--type", "98=gsm")[0]
         self.assertEqual((row["kind"], row["frames"]), ("gsm", "87"))
+
+    def test_frames_of_another_codec_under_the_type_of_gsm(self):
+        frames = capture_files.rtp_capture([(3, n, b"\xc5" + bytes(30), 7) for n in range(20)])
+        (row,) = self.scan(self.path("efr.pcap", frames))
+        said = "payload type 3: 31 octets that begin with 1100: enhanced full rate, which trau"
+        self.assertEqual((row["kind"], row["frames"], row["descriptors"]), ("unknown", "20", ""))
+        self.assertTrue(row["detail"].startswith(said), row["detail"])
+
+    def test_some_packets_without_whole_frames(self):
+        bodies = [capture_files.GSM_FRAME] * 10 + [bytes(7)] + [capture_files.GSM_FRAME] * 9
+        given = capture_files.rtp_capture([(3, n, body, 7) for n, body in enumerate(bodies)])
+        (row,) = self.scan(self.path("some.pcap", given))
+        self.assertEqual((row["kind"], row["detail"]), ("gsm", "no whole frames 1"))
+
+    def test_trau_frames_of_gsmtap(self):
+        """Each sub-slot and way is a row, as a channel of a line is."""
+        up = (EXAMPLES / "farm" / "1.up").read_bytes()
+        down = (EXAMPLES / "farm" / "wanted" / "2.down").read_bytes()[40:80] * 100
+        given = [(5, 1, True, up[at : at + 40]) for at in range(0, len(up), 40)]
+        given += [(5, 1, False, down[at : at + 40]) for at in range(0, len(down), 40)]
+        given += [(6, 2, True, bytes(40)) for _ in range(20)]
+        rows = self.scan(self.path("tap.pcap", capture_files.gsmtap_capture(given)))
+        columns = ("kind", "frames", "descriptors", "lost", "detail")
+        self.assertEqual(
+            [tuple(row[column] for column in columns) for row in rows],
+            [
+                ("uplink", "153", "4", "18", "GSMTAP slot 5 channel 1"),
+                ("downlink", "100", "", "", "GSMTAP slot 5 channel 1"),
+                ("unknown", "20", "", "", "GSMTAP slot 6 channel 2; no frame 20"),
+            ],
+        )
+
+    def test_two_senders_with_one_ssrc(self):
+        (row,) = self.scan(self.path("two.pcap", capture_files.two_senders()))
+        said = "two senders with one SSRC, as it seems"
+        self.assertEqual((row["kind"], row["frames"]), ("gsm", "100"))
+        self.assertIn(said, row["detail"])
+        # One sender that begins anew, even a few times, isn't two.
+        numbers = [*range(20), *range(9000, 9020), *range(30000, 30020), *range(50000, 50020)]
+        given = [(3, number, capture_files.GSM_FRAME, 7) for number in numbers]
+        (row,) = self.scan(self.path("anew.pcap", capture_files.rtp_capture(given)))
+        self.assertEqual(row["detail"], "restarts 3")
 
     def test_truncated(self):
         name = self.path("cut.pcap", (DATA / "gsm.pcap").read_bytes()[:2000])

@@ -9,12 +9,13 @@ import struct
 import subprocess
 import unittest
 
+import capture_files
 import e1_lines
 from capture_files import HAS_DPKT
+from captured_packets import packets
 from support import DATA, EXAMPLES, InFolder
 
 from trau.recordings import lines, listening, unpack_line
-from trau.recordings.capture_walk import packets
 from trau.recordings.e1_line import LineBlock
 from trau.recordings.scan_rows import ScanRow
 from trau.recordings.unpacked_folder import UnpackedCall, UnpackedLine, number_calls
@@ -49,16 +50,17 @@ def joined_captures(names):
 class Unpacks(InFolder):
     """A test of the command in a folder of its own."""
 
-    def unpack(self, name, *words):
-        """The folder that the command makes of a recording, what it says, and the rows of its
-        table."""
+    def unpack(self, name, *words, said=""):
+        """The folder that the command makes of a recording, what it says, on standard error
+        besides, and the rows of its table."""
         folder = self.folder / "calls"
         status, out, err = self.run_tool(lines.main, "unpack", name, folder, *words)
         note = f"{name}: no pairs are sought: that needs the C library, which clib/build makes\n"
         with open(folder / "calls.csv", newline="") as file:
             rows = list(csv.DictReader(file))
         has_both = {"up", "pcm"} <= {row["line"] for row in rows} and rows[0]["slot"]
-        self.assertEqual((status, err), (0, "" if HAS_LIBRARY or not has_both else note))
+        note = "" if HAS_LIBRARY or not has_both else note
+        self.assertEqual((status, err), (0, said + note))
         for row in rows:
             octets = (folder / f"{row['call']}.{row['line']}").read_bytes()
             self.assertEqual(row["sha256"], hashlib.sha256(octets).hexdigest())
@@ -148,7 +150,8 @@ class OfLines(Unpacks):
     def test_octets_lost(self):
         line = self.made()
         name = self.path("line.e1", line[:1_000_000] + line[1_000_033:])
-        folder, _, rows = self.unpack(name)
+        said = f"{name}: octets were lost or gained, times 1, at 3.906 s\n"
+        folder, _, rows = self.unpack(name, said=said)
         report_text = self.run_calls(folder)
         counts = [each for each in report_text.splitlines() if each.startswith("counts ")]
         good = {each.split()[1]: int(each.split()[3]) for each in counts}
@@ -204,6 +207,33 @@ class OfCaptures(Unpacks):
         said = next(each for each in listed if ssrc in each)
         return said.split(": ")[-1].split(" ")[0]
 
+    def test_trau_frames_of_gsmtap(self):
+        """The frames of a sub-slot and way, one after another; nothing of what isn't whole."""
+        up = (EXAMPLES / "7.up").read_bytes()[:4000]
+        down = (EXAMPLES / "farm" / "wanted" / "2.down").read_bytes()[40:80] * 100
+        frames = [
+            (at, line[at : at + 40], line is up) for line in (up, down) for at in range(0, 4000, 40)
+        ]
+        given = [(5, 1, is_up, frame) for _, frame, is_up in sorted(frames)]
+        given += [(6, 2, True, bytes(40)) for _ in range(20)]
+        name = self.path("tap.pcap", capture_files.gsmtap_capture(given))
+        folder, out, rows = self.unpack(name)
+        self.assertEqual(out, "unpack calls 2 up 1 pcm 0 down 1 pairs 0 left 1\n")
+        for row in rows:
+            wanted = {"up": up, "down": down}[row["line"]]
+            self.assertEqual((folder / f"{row['call']}.{row['line']}").read_bytes(), wanted)
+            self.assertEqual(row["kind"], {"up": "uplink", "down": "downlink"}[row["line"]])
+
+    def test_trau_frames_that_were_cut(self):
+        frame = (EXAMPLES / "7.up").read_bytes()[:40]
+        given = capture_files.gsmtap_capture([(5, 1, True, frame)] * 20, most=80)
+        name = self.path("cut.pcap", given)
+        said = "unpack calls 0 up 0 pcm 0 down 0 pairs 0 left 1\n"
+        words = ("unpack", name, self.folder / "calls")
+        self.assertEqual(self.run_tool(lines.main, *words)[:2], (0, said))
+        out = self.run_tool(lines.main, "scan", name)[1]
+        self.assertTrue(out.endswith("GSMTAP slot 5 channel 1; cut off 20\n"), out)
+
     def test_orders_and_clock(self):
         name = self.path("gsm.pcap", joined_captures(("sources.pcap",)))
         folder, _, rows = self.unpack(name)
@@ -217,6 +247,36 @@ class OfCaptures(Unpacks):
         words = ["unpack", name, self.folder / "calls"]
         self.assert_refused(lines.main, words, "ends within packet")
         self.assertEqual(self.run_tool(lines.main, *words, "--partial")[0], 0)
+
+
+class DoubtfulStreams(Unpacks):
+    """Streams of which no line can be made for sure: each is named, and none is made."""
+
+    def refused(self, capture):
+        """What standard error says of a capture of which nothing is unpacked."""
+        name = self.path("odd.pcap", capture)
+        status, out, err = self.run_tool(lines.main, "unpack", name, self.folder / "calls")
+        said = "unpack calls 0 up 0 pcm 0 down 0 pairs 0 left 1\n"
+        self.assertEqual((status, out), (0, said))
+        self.assertFalse(list((self.folder / "calls").glob("*.up")))
+        return err
+
+    def test_two_senders_with_one_ssrc(self):
+        said = "0x00000007: not unpacked: two senders with one SSRC, as it seems\n"
+        self.assertIn(said, self.refused(capture_files.two_senders()))
+
+    def test_no_packet_captured_whole(self):
+        given = [(3, number, capture_files.GSM_FRAME, 7) for number in range(20)]
+        err = self.refused(capture_files.rtp_capture(given, most=60))
+        self.assertIn("0x00000007: not unpacked: none of its packets was captured whole\n", err)
+
+    def test_some_packets_captured_whole(self):
+        given = [(8, n, (160 if n % 2 else 240) * b"\x35", 7) for n in range(20)]
+        name = self.path("some.pcap", capture_files.rtp_capture(given, most=214))
+        status, out, err = self.run_tool(lines.main, "unpack", name, self.folder / "calls")
+        self.assertEqual((status, out.split()[2]), (0, "1"))
+        said = "some.pcap: 10 packets of speech weren't captured whole; they count as lost\n"
+        self.assertTrue(err.endswith(said), err)
 
 
 class BothWays(Unpacks):

@@ -7,7 +7,6 @@ import mmap
 from pathlib import Path
 from typing import Iterator, Optional
 
-from trau.command_line.files import STREAM
 from trau.recordings import recordings
 from trau.recordings.capture_walk import CaptureOctets, is_capture
 from trau.recordings.line_scan import ReadingProgress
@@ -27,8 +26,6 @@ def capture_octets(name: Path, partial: bool = False) -> Iterator[CaptureOctets]
 
 def has_capture(name: Path) -> bool:
     """Whether a file is a capture, by its first octets."""
-    if name == STREAM:
-        return False
     return is_capture(next(recordings.blocks_of(name, partial=True), b"")[:4])
 
 

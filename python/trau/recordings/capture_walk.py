@@ -9,7 +9,7 @@ wrong there.
 
 import mmap
 import struct
-from typing import Callable, Dict, Iterator, List, NamedTuple, Optional, Tuple, Union
+from typing import Dict, Iterator, List, NamedTuple, Optional, Tuple, Union
 
 CaptureOctets = Union[bytes, mmap.mmap]
 
@@ -57,20 +57,7 @@ class CaptureInterface(NamedTuple):
 PacketPlace = Tuple[Optional[int], int, int, int, int]
 
 
-class CapturedPacket(NamedTuple):
-    """A packet: its number from 1 as other programs count, its time in seconds since 1970 (the time
-    of the packet before where it has none), its link, its octets as far as they were captured, and
-    how many were sent."""
-
-    number: int
-    time: float
-    link: int
-    octets: bytes
-    sent: int
-
-
 Interfaces = List[CaptureInterface]
-Walk = Callable[[CaptureOctets, Interfaces], Iterator[PacketPlace]]
 
 
 def walk_pcap(data: CaptureOctets, interfaces: Interfaces) -> Iterator[PacketPlace]:
@@ -206,16 +193,3 @@ def walk(data: CaptureOctets, interfaces: Interfaces) -> Iterator[PacketPlace]:
     if not is_capture(magic):
         raise BrokenCapture("begins as no capture does")
     return (walk_pcapng if magic == SECTION_MAGIC else walk_pcap)(data, interfaces)
-
-
-def packets(data: CaptureOctets) -> Iterator[CapturedPacket]:
-    """The packets of a capture."""
-    interfaces: Interfaces = []
-    time = 0.0
-    for number, (ticks, which, place, captured, sent) in enumerate(walk(data, interfaces), 1):
-        interface = interfaces[which]
-        if ticks is not None:
-            time = ticks / interface.ticks + interface.offset
-        yield CapturedPacket(
-            number, time, interface.link, bytes(data[place : place + captured]), sent
-        )

@@ -151,20 +151,6 @@ class PcmOfStream:
         return f"octets {octets} lost {lost} gap {gap} lead {self.lead} padded {self.padded}"
 
 
-def uplink_of(
-    found: Iterable[Stretch], lead: int, marker: Marker, gaps_are_idle: bool
-) -> Tuple[bytes, str]:
-    """An uplink of a stream in memory, and what it has."""
-    line = UplinkOfStream(found, lead, marker, gaps_are_idle)
-    return b"".join(line.chunks()), line.said()
-
-
-def pcm_of(found: Iterable[Stretch], lead: int, sent: Law, law: Law) -> Tuple[bytes, str]:
-    """A Pcm line of a stream in memory, and what it has."""
-    line = PcmOfStream(found, lead, sent, law)
-    return b"".join(line.chunks()), line.said()
-
-
 MOST_OVERLAP = 1.0  # seconds, in which the streams of a call may overlap that are joined
 
 

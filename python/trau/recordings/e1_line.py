@@ -81,7 +81,9 @@ class LineReader:
         self.bit = way.bit  # of the pending octets, with which the next frame begins
         self.has_signal_next = True  # whether the next frame is one of those with the signal
         self.is_anew = True
-        self.breaks = 0
+        self.breaks: List[
+            int
+        ] = []  # frames of the recording before which octets were lost or gained
 
     def blocks(self, blocks: Iterable[bytes]) -> Iterator[LineBlock]:
         """The frames of all blocks of a recording."""
@@ -133,6 +135,7 @@ class LineReader:
         size = self.octets_of_frame
         if lost:
             yield self.given(frames[: lost * size])
+        place = self.frame()
         again = self.next_signal()
         kept = self.whole_frames()
         if again is not None:
@@ -141,7 +144,7 @@ class LineReader:
             yield self.given(kept)
         if again is not None:
             if again % (8 * size):
-                self.breaks += 1
+                self.breaks.append(place)
                 self.is_anew = True
             self.drop(self.bit + again - 8 * len(kept))
             self.has_signal_next = True

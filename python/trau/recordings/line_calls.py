@@ -62,9 +62,14 @@ class ChannelCall:
             frames=self.frames,
         )
         if self.kind == scan_rows.UPLINK:
-            row.descriptors = self.kinds.count(VALID_SID)
-            row.lost = heard_codes(self.kinds).count(LOST_HEARD)
+            put_counts(row, self.kinds)
         return row
+
+
+def put_counts(row: ScanRow, kinds: bytes) -> None:
+    """Puts into the row of an uplink what the kinds of its periods say."""
+    row.descriptors = kinds.count(VALID_SID)
+    row.lost = heard_codes(kinds).count(LOST_HEARD)
 
 
 def kind_of_patterns(codes: bytes) -> Tuple[str, str]:

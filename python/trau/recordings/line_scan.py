@@ -7,9 +7,8 @@ from collections import Counter
 from pathlib import Path
 from typing import Callable, Dict, Iterable, Iterator, List, NamedTuple, Optional, Tuple
 
-from trau.command_line.files import STREAM
 from trau.command_line.words import Refusal
-from trau.recordings import file_kinds, recordings
+from trau.recordings import file_kinds, readings, recordings
 from trau.recordings.bit_order import WAYS, BitWay, decide
 from trau.recordings.excerpts import EXCERPT_OCTETS, excerpts_of
 from trau.recordings.e1_line import (
@@ -21,32 +20,43 @@ from trau.recordings.e1_line import (
 )
 from trau.recordings.line_calls import ChannelCall, calls_of, in_order, row_of_stretch
 from trau.recordings.scan_rows import ScanRow
-from trau.recordings.slot_scan import RunScan, SlotStretch, StretchScan
+from trau.recordings.slot_scan import SAMPLE_OCTETS, RunScan, SlotStretch, StretchScan
 from trau.rules import hunt
 from trau.rules.profile import SAMPLES_A_SECOND
-from trau.rules.slots import SLOTS_OF_E1
+from trau.rules.slots import SLOTS_OF_E1, octets_from
 
 BLOCK = 1 << 22  # octets that are taken at a time
 MOST_BLOCKS = 16  # in which the first signal, or the first frames, are sought
 LEAST_FRAMES = 3
+BY_CHANCE = 0.1  # of the marks of the slot with most of them, below which a slot has no frames
+MOST_SAID = 5  # places where octets were lost
 LEAST_STRETCH = SAMPLES_A_SECOND // 10  # octets; a shorter one isn't listed
 
 
 class LineScan(NamedTuple):
     """What a recording of a line has: how it is read, calls, stretches of slots without frames, the
-    octets of a slot, and how often octets were lost or gained in it."""
+    octets of a slot, and the octets of a slot before which some were lost or gained."""
 
     way: LineWay
     calls: List[ChannelCall]
     stretches: List[SlotStretch]
     length: int
-    breaks: int
+    breaks: List[int]
 
     def rows(self) -> List[ScanRow]:
         """All of it as rows, in the order of slots and time."""
         return in_order(
             [*(call.row() for call in self.calls), *map(row_of_stretch, self.stretches)]
         )
+
+    def breaks_said(self) -> str:
+        """Where octets were lost or gained, in words; empty without any."""
+        if not self.breaks:
+            return ""
+        places = [f"{place / SAMPLES_A_SECOND:.3f}" for place in self.breaks[:MOST_SAID]]
+        more = " s and later" if len(self.breaks) > MOST_SAID else " s"
+        said = f"octets were lost or gained, times {len(self.breaks)}"
+        return f"{said}, at {', '.join(places)}{more}"
 
 
 class ReadingProgress:
@@ -131,6 +141,34 @@ def ways_by_frames(octets: bytes, slots: int, turned: Optional[bool]) -> Tuple[B
     return tuple(way for way in order.ways if turned in (None, way.turned))
 
 
+def laws_read(octets: bytes, slots: Iterable[int], of: int) -> int:
+    """In how many samples of these slots the law is plain."""
+    found = 0
+    for slot in slots:
+        of_slot = octets[slot::of]
+        for start in (len(of_slot) // 3, 2 * len(of_slot) // 3):
+            reading = readings.best_reading(of_slot[start : start + SAMPLE_OCTETS])
+            found += bool(reading and reading.law and not reading.turned)
+    return found
+
+
+def first_bit(octets: bytes, way: BitWay, slots: int) -> int:
+    """The bit at which octets of slots begin that are read in this way. Frames show it but for
+    pairs of bits, and the laws of slots without frames show the rest."""
+    read = way.read(octets)
+    marks = hunt.places(hunt.marks(hunt.hits(read, slots), len(read)), len(read))
+    of_slots = Counter(mark // 8 % slots for mark in marks)
+    most = max(of_slots.values())
+    busy = {slot for slot, count in of_slots.items() if count >= BY_CHANCE * most}
+    free = [slot for slot in range(slots) if not {slot, (slot + 1) % slots} & busy]
+    counts = {
+        bit: laws_read(octets_from(read, bit - way.bit), free, slots)
+        for bit in range(way.bit, 8, 2)
+    }
+    best, second = sorted(counts, key=lambda bit: -counts[bit])[:2]
+    return best if counts[best] > counts[second] else way.bit
+
+
 def way_of(name: Path, slots: Optional[int], turned: Optional[bool], partial: bool) -> LineWay:
     """How a recording is read: by its first signal, or by its first frames. The words may say of
     how many slots it is, and in which order its bits are."""
@@ -142,7 +180,7 @@ def way_of(name: Path, slots: Optional[int], turned: Optional[bool], partial: bo
         for each in [slots] if slots else [1, SLOTS_OF_E1]:
             ways = ways_by_frames(block, each, turned)
             if len(ways) == 1:
-                return LineWay(ways[0].turned, ways[0].bit, each, False)
+                return LineWay(ways[0].turned, first_bit(block, ways[0], each), each, False)
             undecided |= len(ways) > 1
     if undecided and turned is None:
         raise Refusal(
@@ -159,8 +197,6 @@ def way_of(name: Path, slots: Optional[int], turned: Optional[bool], partial: bo
 
 def refuse_others(name: Path, partial: bool) -> None:
     """Refuses what is plainly no recording of a line, by its first octets."""
-    if name == STREAM:
-        raise Refusal("standard input: a recording is read twice, so it has to be a file")
     head = b"".join(itertools.islice(recordings.blocks_of(name, partial), 1))
     head = head[:EXCERPT_OCTETS]
     if not head:

@@ -3,7 +3,7 @@ nothing sends them. What is done with packets is done with rows, and so costs li
 
 from typing import Iterable, Iterator, NamedTuple, Optional, Tuple
 
-from trau.recordings.rtp_packets import NAMES, Packet
+from trau.recordings.rtp_packets import NAMES, READ_KINDS, TRAU_FRAMES, Packet
 from trau.rules.parameters import GSM_MAGIC, GSM_OCTETS
 from trau.rules.payload_types import GSM
 from trau.rules.profile import PCM_OCTETS, SAMPLES_A_SECOND
@@ -66,8 +66,9 @@ class PacketRow(NamedTuple):
 
 def size_in_row(kind: int, payload: Optional[bytes]) -> int:
     """The size that the payloads of a row have which begins with this one; ALONE where a packet
-    must be alone: what isn't a frame of GSM or wasn't captured whole."""
-    if payload is None or len(payload) > MOST_OCTETS:
+    must be alone: what isn't a frame of GSM or wasn't captured whole, and TRAU frames, which have
+    no numbers."""
+    if payload is None or len(payload) > MOST_OCTETS or kind == TRAU_FRAMES:
         return ALONE
     if kind == GSM:
         is_frame = len(payload) == GSM_OCTETS and payload[0] >> 4 == GSM_MAGIC
@@ -100,7 +101,7 @@ class OpenRow:
         self.step = self.size if kind != GSM and kind in NAMES else PCM_OCTETS
         self.stamp, self.next_stamp = stamp, stamp + self.step
         self.is_whole = payload is not None
-        self.payload = bytearray(payload if payload and kind in NAMES else b"")
+        self.payload = bytearray(payload if payload and kind in READ_KINDS else b"")
 
     def takes(
         self,

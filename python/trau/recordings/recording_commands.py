@@ -16,6 +16,7 @@ from trau.recordings import (
     capture_scan,
     line_scan,
     listening,
+    recordings,
     scan_rows,
     slot_pairs,
 )
@@ -50,10 +51,15 @@ def turned_of(words: argparse.Namespace) -> Optional[bool]:
     return True if words.lsb_first else False if words.msb_first else None
 
 
+def say_of(name: Path, what: str) -> None:
+    """Says something of a recording on standard error, if there is anything to say."""
+    if what:
+        print(f"{name}: {what}", file=sys.stderr)
+
+
 def say_of_capture(name: Path, unread: str) -> None:
     """Says what of a capture isn't read."""
-    if unread:
-        print(f"{name}: not read: {unread}", file=sys.stderr)
+    say_of(name, unread and f"not read: {unread}")
 
 
 def rows_of_capture(words: argparse.Namespace, wrong: List[str]) -> List[ScanRow]:
@@ -68,8 +74,7 @@ def rows_of_capture(words: argparse.Namespace, wrong: List[str]) -> List[ScanRow
 def rows_of_line(words: argparse.Namespace) -> List[ScanRow]:
     """The rows of a recording of a line."""
     found = line_scan.scan_line(words.given, words.of, turned_of(words), words.partial)
-    if found.breaks:
-        print(f"{words.given}: octets were lost or gained, times {found.breaks}", file=sys.stderr)
+    say_of(words.given, found.breaks_said())
     rows = found.rows()
     scan_rows.with_utc(rows, words.begins)
     return rows
@@ -84,6 +89,7 @@ def scan(words: argparse.Namespace) -> int:
     otherwise unknown. A call whose channel has no frames for a second ends, and what follows is a
     row of its own. What isn't read of a capture is counted on standard error."""
     wrong: List[str] = []
+    recordings.refuse_read_once(words.given)
     if capture_scan.has_capture(words.given):
         rows = rows_of_capture(words, wrong)
     else:
@@ -120,6 +126,7 @@ def pair_line(name: Path, calls: List[UnpackedCall], folder: UnpackedFolder) -> 
 def unpack_line(words: argparse.Namespace, folder: UnpackedFolder) -> str:
     """Makes the lines of a recording of a line."""
     found = line_scan.scan_line(words.given, words.of, turned_of(words), words.partial)
+    say_of(words.given, found.breaks_said())
     scan_rows.with_utc((rows := found.rows()), words.begins)
     calls = unpack_lines.calls_of_line(found)
     for call in calls:
@@ -145,7 +152,8 @@ def unpack_capture(words: argparse.Namespace, folder: UnpackedFolder) -> str:
     number_calls(calls)
     wish = unpack_streams.StreamWish(words.given, words.gap == "idle", words.sid == "keep")
     for refused in unpack_streams.write_streams(streams, files, folder, wish):
-        print(f"{words.given}: {refused}", file=sys.stderr)
+        say_of(words.given, refused)
+    say_of(words.given, unpack_streams.cut_said(streams))
     files.remove()
     calls = [call for call in calls if call.lines]
     folder.finish(calls, words.given, sha256_of(words.given), found.begins)
@@ -164,6 +172,7 @@ def unpack(words: argparse.Namespace) -> int:
     with the delay, which needs the C library. What isn't sure stays unpaired. Prints `unpack calls
     N up A pcm B down C pairs D left E`: E streams, and stretches of slots and channels, have
     something else and aren't unpacked; `scan` names them."""
+    recordings.refuse_read_once(words.given)
     is_capture = capture_scan.has_capture(words.given)
     with UnpackedFolder(words.new) as folder:
         said = (unpack_capture if is_capture else unpack_line)(words, folder)

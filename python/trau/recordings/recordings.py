@@ -63,6 +63,15 @@ def blocks_of(path: Path, partial: bool = False) -> Iterator[bytes]:
             yield from iter(lambda: file.read(BLOCK_OCTETS), b"")
 
 
+def refuse_read_once(name: Path) -> None:
+    """Refuses standard input and pipes for what reads a recording twice."""
+    what = "a recording is read twice, so it has to be a file"
+    if name == STREAM:
+        raise Refusal(f"standard input: {what}")
+    if name.exists() and not (name.is_file() or name.is_dir() or name.is_block_device()):
+        raise Refusal(f"{name}: isn't a file; {what}")
+
+
 def mapped(path: Path, partial: bool = False) -> Union[bytes, mmap.mmap]:
     """The octets of a recording, which may be longer than the memory. What comes from a pipe, or
     was packed, is put into a file that has no name."""

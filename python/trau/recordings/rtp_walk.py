@@ -9,10 +9,11 @@ from dataclasses import dataclass, field
 from types import MappingProxyType
 from typing import Callable, Dict, Iterator, Mapping, NamedTuple, Optional, Tuple
 
-from trau.recordings import udp_layers
+from trau.recordings import trau_frames, udp_layers
 from trau.recordings.capture_walk import BrokenCapture, CaptureOctets, Interfaces, walk
 from trau.recordings.packet_rows import SEQUENCES, OpenRow, PacketRow
 from trau.recordings.rtp_packets import TRAU_FRAMES
+from trau.recordings.rtp_streams import has_frames
 from trau.recordings.speech_frames import errors_of_frames
 from trau.recordings.udp_layers import CUT, Unread, udp_of
 from trau.rules import rtp
@@ -36,6 +37,7 @@ PLAIN_LENGTH = udp_layers.UDP_HEAD + rtp.HEADER.size  # of UDP, without the payl
 MOST_STEP = 3000
 RING = 64  # numbers that are known to have come or not
 RING_BITS = (1 << RING) - 1
+LEAST_RETURNS = 3  # to numbers that were left, of two senders that have one SSRC
 
 # GSMTAP, as libosmocore's gsmtap.h has it: version 2, a head of so many words of 32 bits, type E1T1.
 GSMTAP_HEAD = struct.Struct(">BBBBHHIBBBB")
@@ -61,22 +63,31 @@ class RtpPacket(NamedTuple):
     payload: Optional[bytes]
 
 
+def is_near(sequence: int, following: int) -> bool:
+    """Whether a number is of a sender whose next one is another."""
+    step = (sequence - following) % SEQUENCES
+    return step < MOST_STEP or step >= SEQUENCES - RING
+
+
 class CapturedStream:
     """What is known of a stream of a capture by its rows. Times are in seconds since 1970."""
 
     __slots__ = (
         *("number", "first", "last", "packets", "kinds", "missing", "late", "doubled", "restarts"),
-        *("descriptors", "cut", "following", "ring", "sample"),
+        *("descriptors", "cut", "wrong", "following", "left", "returns", "ring", "sample", "codes"),
     )
 
     def __init__(self, packet: RtpPacket, number: int, time: float) -> None:
         self.number = number  # of its first packet in the capture, from 1
         self.first = self.last = time
         self.packets = self.missing = self.late = self.doubled = self.restarts = 0
-        self.descriptors = self.cut = 0
+        self.descriptors = self.cut = self.returns = 0
+        self.wrong = 0  # packets of GSM without whole frames, and of GSMTAP without a TRAU frame
+        self.codes = bytearray()  # of TRAU frames
         self.kinds: Dict[int, int] = {}  # packets by payload type
-        self.sample = packet.payload or b""  # of the first packet
+        self.sample = packet.payload or b""  # of the first packet, or of the first wrong one
         self.following = packet.sequence  # the number that is next
+        self.left: Optional[int] = None  # the number that was next before the last jump
         self.ring = 0  # bit k: whether the number following - 1 - k came
 
     def take(self, row: PacketRow) -> None:
@@ -84,24 +95,48 @@ class CapturedStream:
         self.packets += row.packets
         self.last = row.last_time
         self.kinds[row.kind] = self.kinds.get(row.kind, 0) + row.packets
-        self.count_number(row.sequence)
-        if self.following == row.sequence + 1:
-            more = row.packets - 1
+        if row.kind == TRAU_FRAMES:
+            self.take_trau_frame(row.payload)
+            return
+        self.take_numbers(row.sequence, row.packets)
+        if row.payload is None:
+            self.cut += row.packets
+        elif row.kind == GSM:
+            self.take_frames(row.payload, row.packets)
+
+    def take_trau_frame(self, frame: Optional[bytes]) -> None:
+        """One more TRAU frame of GSMTAP."""
+        code = None if frame is None else trau_frames.code_of(frame)
+        if code is not None:
+            self.codes.append(code)
+        self.cut += frame is None
+        self.wrong += frame is not None and code is None
+
+    def take_numbers(self, first: int, packets: int) -> None:
+        """Counts so many packets by their numbers, which go on by one."""
+        self.count_number(first)
+        if self.following == first + 1:
+            more = packets - 1
             self.following += more
             self.ring = (self.ring + 1 << more) - 1 & RING_BITS
         else:
-            for number in range(row.sequence + 1, row.sequence + row.packets):
+            for number in range(first + 1, first + packets):
                 self.count_number(number)
-        if row.payload is None:
-            self.cut += row.packets
-        elif row.kind == GSM and len(row.payload) == GSM_OCTETS * row.packets:
-            errors = errors_of_frames(row.payload)
+
+    def take_frames(self, payload: bytes, packets: int) -> None:
+        """One more row of GSM, which has whole frames or is a packet without."""
+        if not has_frames(payload):
+            self.sample = payload if self.wrong == 0 else self.sample
+            self.wrong += packets
+        elif len(payload) == GSM_OCTETS * packets:
+            errors = errors_of_frames(payload)
             self.descriptors += errors.count(0) + errors.count(1)
 
     def count_number(self, sequence: int) -> None:
         """Counts a packet by its number."""
         step = (sequence - self.following) % SEQUENCES
         if step < MOST_STEP:
+            self.left = self.following if step >= RING else self.left
             self.missing += step
             self.ring = (self.ring << step + 1 | 1) & RING_BITS
             self.following = sequence + 1
@@ -115,7 +150,13 @@ class CapturedStream:
                 self.missing -= self.missing > 0
         else:
             self.restarts += 1
+            self.returns += self.left is not None and is_near(sequence, self.left)
+            self.left = self.following
             self.following, self.ring = sequence + 1, 1
+
+    def has_two_senders(self) -> bool:
+        """Whether two senders seem to have its SSRC: the numbers of each go on in turns."""
+        return self.returns >= LEAST_RETURNS
 
     def kind(self) -> int:
         """The payload type of most packets."""
@@ -157,7 +198,7 @@ def rtp_of(octets: bytes, link: int) -> RtpPacket:
     """The packet of RTP in the octets of a packet."""
     flow, content, size = udp_of(octets, link)
     if content[: len(GSMTAP_E1)] == GSMTAP_E1 and flow.endswith(GSMTAP_PORT):
-        return trau_frame_of(flow, content)
+        return trau_frame_of(flow, content, len(content) >= size)
     try:
         kind, number, stamp, source = rtp.head_of(content)
         payload = rtp.payload_of(content) if len(content) >= size else None
@@ -166,9 +207,9 @@ def rtp_of(octets: bytes, link: int) -> RtpPacket:
     return RtpPacket((flow, source), kind, number, stamp, payload)
 
 
-def trau_frame_of(flow: bytes, content: bytes) -> RtpPacket:
+def trau_frame_of(flow: bytes, content: bytes, is_whole: bool) -> RtpPacket:
     """The TRAU frame of 16 kbit/s that a packet of GSMTAP has, as a packet of a stream of its own:
-    that of a time slot, a sub-slot and a way."""
+    that of a time slot, a sub-slot and a way. It has no number."""
     head = 4 * content[1]
     if len(content) < GSMTAP_HEAD.size or len(content) < head:
         raise Unread(CUT)
@@ -176,7 +217,13 @@ def trau_frame_of(flow: bytes, content: bytes) -> RtpPacket:
     if sub_type != GSMTAP_TRAU16:
         raise Unread(OTHER_GSMTAP)
     source = (arfcn & GSMTAP_UPLINK) << 8 | slot << 8 | sub_slot
-    return RtpPacket((flow, source), TRAU_FRAMES, 0, frame, content[head:])
+    payload = content[head:] if is_whole else None
+    return RtpPacket((flow, source), TRAU_FRAMES, 0, frame, payload)
+
+
+def gsmtap_said(source: int) -> str:
+    """Where the TRAU frames of a stream of GSMTAP were, in words."""
+    return f"GSMTAP slot {source >> 8 & 0xFF} channel {source & 0xFF}"
 
 
 # The pass

@@ -11,7 +11,6 @@ from typing import List, Optional, Sequence
 # What a row carries.
 UPLINK, DOWNLINK, OTHER_FRAMES = "uplink", "downlink", "other-frames"
 ALAW, MULAW, GSM, IDLE, UNKNOWN = "alaw", "mulaw", "gsm", "idle", "unknown"
-QUIET_KINDS = (IDLE, UNKNOWN)  # of which nothing is unpacked
 
 
 @dataclass

@@ -10,10 +10,10 @@ from pathlib import Path
 from typing import BinaryIO, Dict, Iterable, Iterator, List, NamedTuple, Optional, Sequence, Tuple
 
 from trau.command_line.words import Refusal
-from trau.recordings import capture_rows, captures
+from trau.recordings import capture_rows, captures, scan_rows
 from trau.recordings.code_word import Marker
 from trau.recordings.packet_rows import PacketRow
-from trau.recordings.rtp_packets import NAMES
+from trau.recordings.rtp_packets import TRAU_FRAMES
 from trau.recordings.rtp_streams import Counts, stretches, without_wrong
 from trau.recordings.rtp_walk import CapturedStream, CaptureScan, Key
 from trau.recordings.udp_layers import other_way
@@ -25,7 +25,7 @@ from trau.recordings.unpacked_folder import (
     sha256_of,
 )
 from trau.rules.g711 import Law
-from trau.rules.lines import OCTETS_OF_SIDE, PCM, UP
+from trau.rules.lines import DOWN, OCTETS_OF_SIDE, PCM, UP
 from trau.rules.payload_types import GSM
 from trau.rules.profile import PERIODS_A_SECOND
 
@@ -100,7 +100,10 @@ class StreamWish(NamedTuple):
 
 
 def chunks_of(rows: Iterable[PacketRow], kind: int, wish: StreamWish) -> Iterator[bytes]:
-    """The line of the packets of a stream, an uplink or a Pcm line of its own law, as it is made."""
+    """The line of the packets of a stream, as it is made: an uplink, a Pcm line of its own law, or
+    the TRAU frames one after another."""
+    if kind == TRAU_FRAMES:
+        return (row.payload or b"" for row in rows if row.kind == TRAU_FRAMES)
     counts = Counts()
     right = without_wrong(wish.name, rows, True, counts)
     found = stretches(wish.name, [right], kind, True, counts)
@@ -122,12 +125,21 @@ class StreamCall:
     call: UnpackedCall
 
 
+def side_of(stream: CapturedStream, kind: int) -> Optional[str]:
+    """The side of the line of a stream with this type of speech; None if it makes no line."""
+    if kind == TRAU_FRAMES:
+        return {scan_rows.UPLINK: UP, scan_rows.DOWNLINK: DOWN}.get(
+            capture_rows.word_of(stream, kind)
+        )
+    return UP if kind == GSM else PCM if kind in captures.LAWS else None
+
+
 def call_of_stream(key: Key, stream: CapturedStream, begins: float) -> Optional[StreamCall]:
     """The call of a stream with speech; how many periods it has is known when it is written."""
     kind = capture_rows.speech_type(stream)
-    if kind not in NAMES:
+    side, law = side_of(stream, kind), captures.LAWS.get(kind, Law.A)
+    if side is None:
         return None
-    side, law = (UP, Law.A) if kind == GSM else (PCM, captures.LAWS[kind])
     row = capture_rows.row_of_stream(key, stream, begins)
     period = max(0, round((stream.first - begins) * PERIODS_A_SECOND))
     line = UnpackedLine(row, side, period, 0, stream.number, law)
@@ -173,7 +185,7 @@ def calls_of_capture(scan: CaptureScan) -> List[StreamCall]:
     listed = capture_rows.listed_streams(scan)
     found = [call_of_stream(key, stream, scan.begins) for key, stream in listed]
     calls = [each for each in found if each]
-    pair_streams(calls)
+    pair_streams([each for each in calls if each.kind != TRAU_FRAMES])
     return calls
 
 
@@ -202,6 +214,20 @@ def even_out(call: UnpackedCall, folder: UnpackedFolder) -> None:
             line.sha256 = sha256_of(folder.path(call, side))
 
 
+def refuse_doubtful(name: Path, stream: CapturedStream) -> None:
+    """Refuses a stream of which no line can be made for sure."""
+    if stream.has_two_senders():
+        raise Refusal(f"{name}: {capture_rows.TWO_SENDERS}")
+    if stream.cut == stream.packets:
+        raise Refusal(f"{name}: none of its packets was captured whole")
+
+
+def cut_said(streams: Sequence[StreamCall]) -> str:
+    """How many packets of the streams that have lines weren't captured whole, in words."""
+    cut = sum(each.stream.cut for each in streams if each.line.side in each.call.lines)
+    return f"{cut} packets of speech weren't captured whole; they count as lost" if cut else ""
+
+
 def write_streams(
     streams: Sequence[StreamCall], files: PacketFiles, folder: UnpackedFolder, wish: StreamWish
 ) -> List[str]:
@@ -209,9 +235,10 @@ def write_streams(
     refused = []
     for each in streams:
         try:
+            refuse_doubtful(wish.name, each.stream)
             write_stream(each, chunks_of(files.rows(each.key), each.kind, wish), folder)
         except Refusal as refusal:
-            folder.path(each.call, each.line.side).unlink()
+            folder.path(each.call, each.line.side).unlink(missing_ok=True)
             reason = str(refusal).partition(": ")[2]
             refused.append(f"{each.line.row.place()}: not unpacked: {reason}")
             del each.call.lines[each.line.side]

@@ -118,7 +118,9 @@ class UnpackedFolder:
             self.part.mkdir(parents=True)
         return self
 
-    def __exit__(self, kind: object, *_: object) -> None:
+    def __exit__(self, kind: object, failure: object, *_: object) -> None:
+        if isinstance(failure, OSError) and self.has(failure.filename):
+            failure.filename = str(self.place)
         if kind is None:
             with naming(self.place):
                 if self.place.exists():
@@ -126,6 +128,10 @@ class UnpackedFolder:
                 self.part.rename(self.place)
         else:
             shutil.rmtree(self.part, ignore_errors=True)
+
+    def has(self, name: Optional[str]) -> bool:
+        """Whether a failure names a file of the folder; where a disk is full it names nothing."""
+        return name is None or self.part in Path(name).parents
 
     def folder_of(self, call: UnpackedCall) -> Path:
         """The folder of a call's lines."""

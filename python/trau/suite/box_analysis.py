@@ -1,7 +1,7 @@
 """Names the rule of the encoder that a box breaks, by the stages that differ; for the ratios, the
 steps before them are turned one at a time until they are explained (GSM 06.10 section 4.2)."""
 
-from typing import List, NamedTuple, Optional, Sequence, Tuple
+from typing import Dict, List, NamedTuple, Optional, Sequence, Tuple
 
 from trau.model import codec
 from trau.rules.arithmetic import add, mult_r, saturate, saturate_long
@@ -22,6 +22,7 @@ RATIO_RULES = (
 )
 LATER_RULES = ("encoder.short-term", "encoder.memory")
 MOST_FRAMES = 30
+ALONE = 4  # a stage that differs in so many times the frames of any other is the one that is turned
 FEW = 0.05  # stages that differ in fewer frames than this part of the worst one's follow from it
 
 
@@ -169,6 +170,13 @@ def turned_ratios(
     return None
 
 
+def stage_alone(counts: Dict[Stage, int]) -> Optional[Stage]:
+    """The stage that differs in far more frames than any other. Those others are of frames after a
+    pause, where the state is taken for known a little too early."""
+    first, second = sorted(counts, key=lambda stage: -counts[stage])[:2]
+    return first if counts[first] >= ALONE * counts[second] else None
+
+
 def turned_stage(followed: Sequence[Followed]) -> Optional[str]:
     """The rule of the first later stage that differs; None if these can't say it."""
     counts = stages_of(followed)
@@ -177,9 +185,10 @@ def turned_stage(followed: Sequence[Followed]) -> Optional[str]:
     if counts[Stage.GRID]:
         found.add(Stage.GRID)
     pulses = {Stage.MAXIMUM, Stage.PULSES}
-    if found == {Stage.LAG}:
+    alone = stage_alone(counts)
+    if found == {Stage.LAG} or alone is Stage.LAG:
         return "encoder.lag"
-    if found == {Stage.GAIN}:
+    if found == {Stage.GAIN} or alone is Stage.GAIN:
         return "encoder.lag-gain"
     if found and found <= pulses:
         return "encoder.pulses"

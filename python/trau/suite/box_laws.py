@@ -22,7 +22,6 @@ class Convention(NamedTuple):
         return self.more_below if is_below else int(not self.has_upper)
 
 
-OURS = Convention(True, 0)
 CONVENTIONS = tuple(
     Convention(has_upper, more_below) for more_below in (0, 1, -1) for has_upper in (True, False)
 )

@@ -71,7 +71,7 @@ def slot_line(name: Path, where: str, words: RecordingWords) -> bytes:
     blocks = reader.blocks(line_scan.blocks_of(name, "read"))
     octets = b"".join(block.octets[place.slot :: way.slots] for block in blocks)
     if reader.breaks:
-        raise Refusal(f"{name}: octets were lost or gained in it, times {reader.breaks}")
+        raise Refusal(f"{name}: octets were lost or gained in it, times {len(reader.breaks)}")
     return octets if place.channel is None else channel_octets(octets, place.channel)
 
 

@@ -36,15 +36,17 @@ SIGNS = {
     Verdict.DOES_NOT_APPLY: ("other", "", "doesn't apply to the peer"),
 }
 STYLE = """
-body { font: 15px/1.45 system-ui, sans-serif; color: #222; margin: 2em auto; max-width: 90em; padding: 0 1em; }
+body { font: 15px/1.45 system-ui, sans-serif; color: #222; margin: 2em auto; max-width: 110em; padding: 0 1em; }
 h1 { font-size: 1.5em; } h2 { font-size: 1.15em; margin-top: 2em; }
 table { border-collapse: collapse; } td, th { padding: .25em .6em; text-align: left; vertical-align: top; }
 tr { border-bottom: 1px solid #e4e4e4; } thead th { border-bottom: 2px solid #888; }
-.matrix thead th { position: sticky; top: 0; background: #fff; }
-.matrix td { text-align: center; min-width: 4.5em; } .matrix th { font-weight: normal; }
+.matrix thead th { position: sticky; top: 0; background: #fff; text-align: center; font-weight: bold; }
+.matrix thead th:first-child { text-align: left; z-index: 1; }
+.matrix td { text-align: center; min-width: 4em; padding: .25em .3em; } .matrix th { font-weight: normal; }
+.matrix tr th:first-child { position: sticky; left: 0; background: #fff; min-width: 15em; }
 .matrix th code { font-weight: bold; } .matrix small { display: block; color: #666; max-width: 34em; }
-.group th { background: #f3f3f3; font-weight: bold; }
-td.kept { color: #187a2f; background: #eef8f0; } td.broken { color: #a11; background: #fdecec; font-size: .85em; }
+.matrix tr.group th { background: #f3f3f3; font-weight: bold; }
+td.kept { color: #187a2f; background: #eef8f0; } td.broken { color: #a11; background: #fdecec; font-size: .8em; }
 td.other { color: #999; } .count { text-align: right; }
 """
 

@@ -27,7 +27,6 @@ from trau.suite.reference import frame_of_parameters
 
 MOST_LOST = 40
 SILENT_FROM = 17  # lost frames after which there is silence
-DUE_EACH = 24  # periods from one descriptor to the next
 NOISE = "noise.lags noise.lag-gain noise.pulses noise.between noise.draws"
 # Bursts whose sound is decoded too; of the others the frames alone.
 HEARD_BURSTS = (1, 2, 16, 17, 18)
