@@ -7,9 +7,9 @@ on standard error why something failed, are left out of the comparison: another 
 
 A block of lines that are indented by four spaces, the first of which begins with `$ `, is one session of a shell: lines
 that begin with `$ ` are its commands (a line `> ` goes on with the one above), all other lines their output, standard
-output and standard error together. Each session begins in a folder of its own under WORK that has a copy of `examples`,
-`tools` and `core`, and the scripts `trau` and `demo`, as the top of the repository has them. Nothing is written elsewhere, but
-with --write, which puts the real output into the documents. Fenced blocks are not run.
+output and standard error together. Each session begins in a folder of its own under WORK that has a copy of `examples` and
+`tools`, and the scripts `trau` and `demo`, as the top of the repository has them. Nothing is written elsewhere, but with
+--write, which puts the real output into the documents. Fenced blocks are not run.
 
 Four things more are compared: that the files and headings exist to which a document's links lead; that a fenced block
 whose first line names a file, as ```rust crates/C/src/lib.rt, stands in that file word for word; that each function stands
@@ -119,7 +119,7 @@ def run(session, folder):
     for name in ("trau", "demo"):
         if (TOP / name).exists():
             (place / name).symlink_to(TOP / name)
-    for name in ("examples", "tools", "core"):
+    for name in ("examples", "tools"):
         if (TOP / name).exists():
             shutil.copytree(TOP / name, place / name, ignore=MADE)
     shutil.copytree(
