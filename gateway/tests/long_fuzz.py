@@ -78,7 +78,7 @@ class Fuzz(InFolder):
         subprocess.run([*words, library / "lib" / "libtrau_fr.a", "-o", made], check=True)
         return made
 
-    @unittest.skipUnless(has_fuzzer(), "libclang-rt-14-dev isn't installed")
+    @unittest.skipUnless(has_fuzzer(), "libclang-rt-dev isn't installed")
     def test_the_exports(self):
         seeds = self.folder / "seeds"
         seeds.mkdir()

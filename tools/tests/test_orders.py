@@ -38,7 +38,7 @@ FAULTS = (
     (b"0  open 1", f'"" where {VERB}{SPACES}'),
     (b" 0 open 1", f'"" where {PERIOD}{SPACES}'),
     (b"0 open 1 ", f'"" where {LAW}{SPACES}'),
-    (b"0\topen 1", f'"0\\x09open" where {PERIOD}{ZEROS}'),
+    (b"0\topen 1", f'"0\\x09open" where {PERIOD}'),
     (b"\xef\xbb\xbf0 open 1", f'"\\xef\\xbb\\xbf0" where {PERIOD}'),
     (b"0 open 1\xc2\xa0", f'"1\\xc2\\xa0" where {CALL_OF_ORDER}'),
     (b"", f"an empty line; {STRIPS}"),

@@ -507,6 +507,7 @@ class TheFirstStart(Started):
             crates - set(build.needed(TOP, build.PROGRAM)),
             {
                 "call_heard",
+                "call_records",
                 "call_sides",
                 "call_tests",
                 "codec_tests",
