@@ -6,3 +6,4 @@ pub mod Histories
 pub mod ByNumber
 pub mod Open
 pub mod Close
+pub mod Changed

@@ -87,12 +87,6 @@ abbrev pub IsOpening : Act → Type 0
 IsOpening (Opened c law) = Unit {0}
 IsOpening _ = ⊥
 
--- it neither opens nor ends a call
-abbrev pub Stays : Act → Type 0
-Stays (Opened c law) = ⊥
-Stays (Closed c p) = ⊥
-Stays _ = Unit {0}
-
 -- the calls and their partners after an act
 pub record Applied (act : Act) (before now : List Kept) : Type 0 where
   pub calls : (c : ℕ) → call_in now c ≡ calls_after act (call_in before) c

@@ -2,15 +2,15 @@
 //! one of the two has a partner, which the farm's invariant forbids. So these functions take the lists and not the
 //! farm.
 
-ghost use Rattle.std.specs.Prelude.{◌≡◌, ℕ, pos, ◌≤ℤ◌, List, Some, None, true, is_some, IfOk, IfErr, IfSome};
-ghost use Rattle.switchboard.specs.declared.act.Act.TheVariants.{Opened, Closed, LevelSet, DtxSet};
+ghost use Rattle.std.specs.Prelude.{◌≡◌, ℕ, List, Some, None, true, is_some, IfOk, IfErr, IfSome};
+ghost use Rattle.switchboard.specs.declared.act.Act.TheVariants.{Opened, Closed, Bridged, Unbridged, LevelSet, DtxSet};
 ghost use Rattle.call_leg.specs.Periods.{CallPeriod};
 ghost use Rattle.call_leg.specs.Settings.{Settings};
 ghost use Rattle.call_leg.specs.Stands.{Stands};
 ghost use Rattle.call_leg.specs.Who.{Who};
 ghost use Rattle.farm_rounds.specs.Numbers.{is_among};
 ghost use Rattle.farm_rounds.specs.Calls.{Call, call_in, partner_in};
-ghost use Rattle.farm_rounds.specs.Acts.{IsOpen, ActFits, Stays, Applied, bridged_call, parted_call, set_by};
+ghost use Rattle.farm_rounds.specs.Acts.{IsOpen, ActFits, Applied, bridged_call, parted_call};
 ghost use Rattle.farm_rounds.specs.Histories.{tally_of};
 ghost use Rattle.farm_rounds.specs.Opens.{opens_in, calls_of, AreOpen};
 ghost use Rattle.farm_rounds.specs.Opened.{AreListed, IsChanged, IsReleased};
@@ -19,7 +19,6 @@ use crate::live::{index_of, insertion_index};
 use crate::open::OpenCall;
 use crate::tally::Tally;
 use std::alloc::{AllocError, Global};
-use switchboard::Act;
 use trau_alaw::Law;
 use trau_orders::DtxMode;
 
@@ -70,50 +69,50 @@ fn end_bridge(calls: &mut [Box<OpenCall>], live: &[u32], call: u32)
     calls[index_of(live, call)].end_bridge();
 }
 
-// Sets the level of a call.
-fn set_level(calls: &mut [Box<OpenCall>], live: &[u32], call: u32, level: i16)
-    requires listed { AreListed live.now (opens_in calls.old) }
-    requires there { is_among live.now call ≡ true }
-    requires range { pos 0 ≤ℤ level }
-    ensures { IsChanged call (λ k. record { call = set_by (LevelSet call level) k.call; partner = k.partner })
-        (opens_in calls.old) (opens_in calls.new) }
+/// Starts the bridge of two calls.
+pub(crate) fn bridge(calls: &mut [Box<OpenCall>], live: &[u32], a: u32, b: u32)
+    requires sound { (most : ℕ) × AreOpen most live.now (opens_in calls.old) }
+    requires fits { ActFits (calls_of calls.old) (Bridged a b) }
+    ensures applied { Applied (Bridged a b) (calls_of calls.old) (calls_of calls.new) }
+    ensures sound { (most : ℕ) → AreOpen most live.now (opens_in calls.old) →
+        AreOpen most live.now (opens_in calls.new) }
+{
+    start_bridge(calls, live, a, b);
+    start_bridge(calls, live, b, a);
+}
+
+/// Ends the bridge of two calls.
+pub(crate) fn unbridge(calls: &mut [Box<OpenCall>], live: &[u32], a: u32, b: u32)
+    requires sound { (most : ℕ) × AreOpen most live.now (opens_in calls.old) }
+    requires fits { ActFits (calls_of calls.old) (Unbridged a b) }
+    ensures applied { Applied (Unbridged a b) (calls_of calls.old) (calls_of calls.new) }
+    ensures sound { (most : ℕ) → AreOpen most live.now (opens_in calls.old) →
+        AreOpen most live.now (opens_in calls.new) }
+{
+    end_bridge(calls, live, a);
+    end_bridge(calls, live, b);
+}
+
+/// Sets the level of a call.
+pub(crate) fn set_level(calls: &mut [Box<OpenCall>], live: &[u32], call: u32, level: i16)
+    requires sound { (most : ℕ) × AreOpen most live.now (opens_in calls.old) }
+    requires fits { ActFits (calls_of calls.old) (LevelSet call level) }
+    ensures applied { Applied (LevelSet call level) (calls_of calls.old) (calls_of calls.new) }
+    ensures sound { (most : ℕ) → AreOpen most live.now (opens_in calls.old) →
+        AreOpen most live.now (opens_in calls.new) }
 {
     calls[index_of(live, call)].job.set_level(level);
 }
 
-// Sets the DTX mode of a call.
-fn set_dtx(calls: &mut [Box<OpenCall>], live: &[u32], call: u32, mode: DtxMode)
-    requires listed { AreListed live.now (opens_in calls.old) }
-    requires there { is_among live.now call ≡ true }
-    ensures { IsChanged call (λ k. record { call = set_by (DtxSet call mode) k.call; partner = k.partner })
-        (opens_in calls.old) (opens_in calls.new) }
-{
-    calls[index_of(live, call)].job.set_dtx(mode);
-}
-
-/// Applies an act that neither opens nor ends a call.
-pub(crate) fn change(calls: &mut [Box<OpenCall>], live: &[u32], act: &Act)
+/// Sets the DTX mode of a call.
+pub(crate) fn set_dtx(calls: &mut [Box<OpenCall>], live: &[u32], call: u32, mode: DtxMode)
     requires sound { (most : ℕ) × AreOpen most live.now (opens_in calls.old) }
-    requires fits { ActFits (calls_of calls.old) act.now }
-    requires stays { Stays act.now }
-    ensures applied { Applied act.now (calls_of calls.old) (calls_of calls.new) }
+    requires fits { ActFits (calls_of calls.old) (DtxSet call mode) }
+    ensures applied { Applied (DtxSet call mode) (calls_of calls.old) (calls_of calls.new) }
     ensures sound { (most : ℕ) → AreOpen most live.now (opens_in calls.old) →
         AreOpen most live.now (opens_in calls.new) }
 {
-    match *act {
-        // `stays` excludes these.
-        Act::Opened { .. } | Act::Closed { .. } => {}
-        Act::Bridged { a, b } => {
-            start_bridge(calls, live, a, b);
-            start_bridge(calls, live, b, a);
-        }
-        Act::Unbridged { a, b } => {
-            end_bridge(calls, live, a);
-            end_bridge(calls, live, b);
-        }
-        Act::LevelSet { call, level } => set_level(calls, live, call, level),
-        Act::DtxSet { call, mode } => set_dtx(calls, live, call, mode),
-    }
+    calls[index_of(live, call)].job.set_dtx(mode);
 }
 
 // Ends the bridge of the partner of a call that ends, if there is one.

@@ -16,7 +16,7 @@ ghost use Rattle.call_number.specs.CallNumber.{IsCallNumber};
 ghost use Rattle.farm_rounds.specs.Calls.{Call, call_in, partner_in};
 ghost use Rattle.farm_rounds.specs.Numbers.{IsRising, is_among};
 ghost use Rattle.farm_rounds.specs.Memory.{FarmMemory, home_memory, tally_in};
-ghost use Rattle.farm_rounds.specs.Acts.{IsOpen, IsOpening, ActFits, Stays, Applied, calls_after};
+ghost use Rattle.farm_rounds.specs.Acts.{IsOpen, IsOpening, ActFits, Applied, calls_after};
 ghost use Rattle.farm_rounds.specs.Failed.{is_listed, NoneListed};
 ghost use Rattle.farm_rounds.specs.Opens.{AreMutual};
 ghost use Rattle.farm_rounds.specs.Histories.{CallHistory, CallsStand, NoneWaitsIn, histories_after, tallies_after, tally_of};
@@ -97,16 +97,24 @@ impl Farm {
             tally_in self.new.tallies c ≡ tallies_after act.now h (tally_in self.old.tallies) c) }
     {
         match *act {
-            Act::Opened { call, law } => self.open(alloc, call, law),
-            Act::Closed { call, .. } => {
-                self.close(call);
-                Ok(())
-            }
-            _ => {
-                self.change(act);
-                Ok(())
-            }
+            Act::Opened { call, law } => return self.open(alloc, call, law),
+            Act::Closed { call, .. } => self.close(call),
+            Act::Bridged { a, b } => acts::bridge(&mut self.calls.open, &self.calls.live, a, b),
+            Act::Unbridged { a, b } => acts::unbridge(&mut self.calls.open, &self.calls.live, a, b),
+            Act::LevelSet { call, level } => acts::set_level(
+                &mut self.calls.open,
+                &self.calls.live,
+                call,
+                level,
+            ),
+            Act::DtxSet { call, mode } => acts::set_dtx(
+                &mut self.calls.open,
+                &self.calls.live,
+                call,
+                mode,
+            ),
         }
+        Ok(())
     }
 
     // Opens a call with this law.
@@ -139,17 +147,6 @@ impl Farm {
     {
         let tally = acts::close(&mut self.calls.open, &mut self.calls.live, call);
         self.calls.tallies[call as usize] = tally;
-    }
-
-    // Applies an act that neither opens nor ends a call.
-    fn change(&mut self, act: &Act)
-        requires fits { ActFits self.old.calls act.now }
-        requires stays { Stays act.now }
-        ensures before { AreMutual self.old.calls }
-        ensures applied { Applied act.now self.old.calls self.new.calls }
-        ensures others { self.new ≡ record self.old { calls = self.new.calls } }
-    {
-        acts::change(&mut self.calls.open, &self.calls.live, act);
     }
 
     // The tally of an open call so far. Of any other call, the tally that is kept.

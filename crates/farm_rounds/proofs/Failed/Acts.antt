@@ -11,7 +11,7 @@ use Rattle.switchboard.specs.declared.act.Act.{Act}
 use Rattle.switchboard.specs.declared.act.Act.TheVariants as act
 use Rattle.farm_rounds.specs.declared.open.OpenCall.{OpenCall}
 use Rattle.farm_rounds.specs.Calls.{Call, Kept, call_in}
-use Rattle.farm_rounds.specs.Acts.{new_call, parted_call, bridged_call, set_by, put_at, change_at, change_partner, calls_after, Stays, Applied}
+use Rattle.farm_rounds.specs.Acts.{new_call, parted_call, bridged_call, set_by, put_at, change_at, change_partner, calls_after, Applied}
 use Rattle.farm_rounds.specs.Failed.{KnowsLines, AreFailed, NoneListed}
 use Rattle.farm_rounds.specs.Opens.{calls_of}
 
@@ -68,14 +68,6 @@ known_after a lines before now fresh p k = record {
   once = k.once;
   known = λ c x e. know_after lines a (call_in before) fresh k.known c x (sym (p.calls c) ∙ e);
 }
-
-pub stays_fresh : (a : Act) (lines : List Line) → Stays a → NoneListed a lines
-stays_fresh (act.Opened c law) lines s = absurd s
-stays_fresh (act.Closed c p) lines s = tt
-stays_fresh (act.Bridged a b) lines s = tt
-stays_fresh (act.Unbridged a b) lines s = tt
-stays_fresh (act.LevelSet c level) lines s = tt
-stays_fresh (act.DtxSet c mode) lines s = tt
 
 -- no line is listed of no call
 pub none_failed : (lines : List Line) (bs : List (Box OpenCall)) → lines ≡ [] → bs ≡ [] → AreFailed lines (calls_of bs)

@@ -1,5 +1,5 @@
 -- What acts make of the calls and of their partners.
-use Rattle.std.proofs.Common.{◌≡◌, ◌≢◌, refl, sym, ap, ◌∙◌, subst, ℕ, ℤ, ◌<◌, Bool, true, false, ◌||◌, Option, Some, None, List, [], ◌∷◌, length, map, arith, inl, inr, ◌⊎◌}
+use Rattle.std.proofs.Common.{◌≡◌, ◌≢◌, refl, sym, ap, ◌∙◌, subst, ℕ, ℤ, ◌<◌, Bool, true, false, ◌||◌, Option, Some, None, List, [], ◌∷◌, length, map, arith, inl, inr}
 use Rattle.std.specs.Prelude.{◌==◌, if◌then◌else◌, slice_set, slice_index, is_some}
 use Rattle.std.specs.Option.{option_map, option_and_then}
 use Rattle.std.specs.List.{All}
@@ -8,13 +8,12 @@ use Rattle.std.proofs.lemmas.Bool.{eqb-true, ne_eqb, cases_Bool, false≢true}
 use Rattle.std.proofs.lemmas.List.{length-map}
 use Rattle.std.proofs.lemmas.List.Elements.{All-get_or, All-weaker}
 use Rattle.trau_orders.specs.declared.order.DtxMode.{DtxMode}
-use Rattle.switchboard.specs.declared.act.Act.{Act}
 use Rattle.switchboard.specs.declared.act.Act.TheVariants as act
 use Rattle.call_pair.specs.declared.call_job.Phase.TheVariants.{First}
 use Rattle.farm_rounds.specs.declared.open.OpenCall.{OpenCall}
 use Rattle.farm_rounds.specs.Numbers.{IsRising, is_among}
 use Rattle.farm_rounds.specs.Calls.{Call, Kept, kept_in, call_in, partner_in}
-use Rattle.farm_rounds.specs.Acts.{change_at, put_at, bridged_call, parted_call, set_by, ActFits, IsOpen, Applied}
+use Rattle.farm_rounds.specs.Acts.{change_at, put_at, bridged_call, parted_call, set_by, IsOpen, Applied}
 use Rattle.farm_rounds.specs.Opens.{opens_in, kept_of, IsOpenCall}
 use Rattle.farm_rounds.specs.Opened.{open_at, no_open, AreListed, IsChanged}
 use Rattle.farm_rounds.proofs.Places.Boxes.{opens_long}

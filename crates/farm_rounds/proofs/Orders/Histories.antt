@@ -170,13 +170,3 @@ tallied h ks c p kept new s o others this d = elim (cases_Bool (c == d)) [
       ∙ sym (ap (λ (x : Option CallHistory). kept_of x (kept c)) r.2)))
   | inr f ↦ simp f (others d (λ q. false≢true (sym f ∙ eq-eqb c d (sym q))))
 ]
-
--- no other act changes what is kept
-pub same_tallies : (a : Act) (h : ℕ → Option CallHistory) (kept : ℕ → Tally) (d : ℕ) → ((c : ℕ) (p : Option ℕ) → a ≢ act.Closed c p) →
-    kept d ≡ tallies_after a h kept d
-same_tallies (act.Opened c law) h kept d stays = refl
-same_tallies (act.Closed c p) h kept d stays = absurd (stays c p refl)
-same_tallies (act.Bridged b c) h kept d stays = refl
-same_tallies (act.Unbridged b c) h kept d stays = refl
-same_tallies (act.LevelSet c level) h kept d stays = refl
-same_tallies (act.DtxSet c mode) h kept d stays = refl

@@ -1,12 +1,16 @@
-use Rattle.std.proofs.Common.{rules, ◌≡◌, ◌∙◌, sym, subst, ap, ℕ, Option}
+use Rattle.std.proofs.Common.{◌≡◌, ◌∙◌, sym, subst, ℕ, Option}
+use Rattle.std.proofs.lemmas.List.{with_items_is}
 use Rattle.std.proofs.lemmas.Result.{on_ok_weaker}
+use Rattle.std.specs.Vec.{with_items}
 use Rattle.switchboard.specs.declared.act.Act.{Act}
 use Rattle.switchboard.specs.declared.act.Act.TheVariants as act
 use Rattle.farm_rounds.specs.Memory.{FarmMemory, tally_in}
-use Rattle.farm_rounds.specs.Acts.{ActFits, Stays, Applied}
+use Rattle.farm_rounds.specs.Acts.{ActFits, Applied}
 use Rattle.farm_rounds.specs.Failed.{NoneListed}
 use Rattle.farm_rounds.specs.Histories.{whose, tallies_after}
-use Rattle.farm_rounds.proofs.Orders.Histories.{stands_after, tallied, same_tallies}
+use Rattle.farm_rounds.specs.Opens.{AreMutual, calls_of}
+use Rattle.farm_rounds.proofs.Orders.Changed.{changed}
+use Rattle.farm_rounds.proofs.Orders.Histories.{stands_after, tallied}
 use Rattle.farm_rounds.proofs.farm.Farm.apply.Goals as goal
 
 pub open-requires-clause-fresh : goal.open-requires-clause-fresh
@@ -52,20 +56,52 @@ returns-in-Closed-clause-tallies c h s d =
     (tally_in c.close.new.self.tallies) s fits.0.0 c.close.ensures.tallies
     (λ m y e st. c.close.ensures.tally m (whose c.in-Closed.call y) y.periods y.now e st) d)
 
-pub returns-in_default-clause-calls : goal.returns-in_default-clause-calls
-returns-in_default-clause-calls c = c.change.ensures.applied.calls
+pub invariant_of-self : goal.invariant_of-self
+invariant_of-self c =
+    let after = changed (act.Bridged c.in-Bridged.a c.in-Bridged.b) c.deref.ensures.value c.deref_mut.ensures.value
+    (with_items_is c.self.inside.calls.open c.bridge.new.calls (c.bridge.auto.calls ∙ c.deref_mut.ensures.len)) tt c.self.invariant.0 c.self.invariant.2
+    c.bridge.ensures.sound c.bridge.ensures.applied in
+    (after.sound, c.self.invariant.1, after.failed)
 
-pub returns-in_default-clause-partners : goal.returns-in_default-clause-partners
-returns-in_default-clause-partners c = c.change.ensures.applied.partners
+pub invariant_of-self-in-Unbridged : goal.invariant_of-self-in-Unbridged
+invariant_of-self-in-Unbridged c =
+    let after = changed (act.Unbridged c.in-Unbridged.a c.in-Unbridged.b) c.deref-in-Unbridged.ensures.value c.deref_mut-in-Unbridged.ensures.value
+    (with_items_is c.self-in-Unbridged.inside.calls.open c.unbridge.new.calls (c.unbridge.auto.calls ∙ c.deref_mut-in-Unbridged.ensures.len)) tt c.self-in-Unbridged.invariant.0 c.self-in-Unbridged.invariant.2
+    c.unbridge.ensures.sound c.unbridge.ensures.applied in
+    (after.sound, c.self-in-Unbridged.invariant.1, after.failed)
 
-pub returns-in_default-clause-history : goal.returns-in_default-clause-history
-returns-in_default-clause-history c h w s =
-    stands_after h c.args.self.now.calls c.change.ensures.before s c.args.act.now c.change.new.self.calls c.requires.fits w c.change.ensures.applied
+pub invariant_of-self-in-LevelSet : goal.invariant_of-self-in-LevelSet
+invariant_of-self-in-LevelSet c =
+    let after = changed (act.LevelSet c.in-LevelSet.call _) c.deref-in-LevelSet.ensures.value c.deref_mut-in-LevelSet.ensures.value
+    (with_items_is c.self-in-LevelSet.inside.calls.open c.set_level.new.calls (c.set_level.auto.calls ∙ c.deref_mut-in-LevelSet.ensures.len)) tt c.self-in-LevelSet.invariant.0 c.self-in-LevelSet.invariant.2
+    c.set_level.ensures.sound c.set_level.ensures.applied in
+    (after.sound, c.self-in-LevelSet.invariant.1, after.failed)
 
-stays : (c : goal.After-change) → Stays c.args.act.now
-stays c = search rules
+pub invariant_of-self-in-DtxSet : goal.invariant_of-self-in-DtxSet
+invariant_of-self-in-DtxSet c =
+    let after = changed (act.DtxSet c.in-DtxSet.call c.in-DtxSet.mode) c.deref-in-DtxSet.ensures.value c.deref_mut-in-DtxSet.ensures.value
+    (with_items_is c.self-in-DtxSet.inside.calls.open c.set_dtx.new.calls (c.set_dtx.auto.calls ∙ c.deref_mut-in-DtxSet.ensures.len)) tt c.self-in-DtxSet.invariant.0 c.self-in-DtxSet.invariant.2
+    c.set_dtx.ensures.sound c.set_dtx.ensures.applied in
+    (after.sound, c.self-in-DtxSet.invariant.1, after.failed)
 
-pub returns-in_default-clause-tallies : goal.returns-in_default-clause-tallies
-returns-in_default-clause-tallies c h s d =
-    ap (λ (f : FarmMemory). tally_in f.tallies d) c.change.ensures.others ∙ same_tallies c.args.act.now h (tally_in c.args.self.now.tallies) d
-    (λ n p e. subst Stays e (stays c))
+pub returns-in-Bridged-clause-history : goal.returns-in-Bridged-clause-history
+returns-in-Bridged-clause-history c h w s =
+    let after = changed (act.Bridged c.in-Bridged.a c.in-Bridged.b) c.deref.ensures.value c.deref_mut.ensures.value
+    (with_items_is c.self.inside.calls.open c.bridge.new.calls (c.bridge.auto.calls ∙ c.deref_mut.ensures.len)) tt c.self.invariant.0 c.self.invariant.2
+    c.bridge.ensures.sound c.bridge.ensures.applied in
+    let both = subst (λ (f : FarmMemory). AreMutual f.calls) c.self.view_is c.self.invariant.0.both in
+    let now = calls_of (with_items c.self.inside.calls.open c.bridge.new.calls).items in
+    stands_after h c.args.self.now.calls both s c.args.act.now now c.requires.fits w
+    (subst (λ (x : Act). Applied x c.args.self.now.calls now) (sym c.in-Bridged.is)
+    (subst (λ (f : FarmMemory). Applied (act.Bridged c.in-Bridged.a c.in-Bridged.b) f.calls now) c.self.view_is after.applied))
+
+pub returns-in-Unbridged-clause-history : goal.returns-in-Unbridged-clause-history
+returns-in-Unbridged-clause-history c h w s =
+    let after = changed (act.Unbridged c.in-Unbridged.a c.in-Unbridged.b) c.deref-in-Unbridged.ensures.value c.deref_mut-in-Unbridged.ensures.value
+    (with_items_is c.self-in-Unbridged.inside.calls.open c.unbridge.new.calls (c.unbridge.auto.calls ∙ c.deref_mut-in-Unbridged.ensures.len)) tt c.self-in-Unbridged.invariant.0 c.self-in-Unbridged.invariant.2
+    c.unbridge.ensures.sound c.unbridge.ensures.applied in
+    let both = subst (λ (f : FarmMemory). AreMutual f.calls) c.self-in-Unbridged.view_is c.self-in-Unbridged.invariant.0.both in
+    let now = calls_of (with_items c.self-in-Unbridged.inside.calls.open c.unbridge.new.calls).items in
+    stands_after h c.args.self.now.calls both s c.args.act.now now c.requires.fits w
+    (subst (λ (x : Act). Applied x c.args.self.now.calls now) (sym c.in-Unbridged.is)
+    (subst (λ (f : FarmMemory). Applied (act.Unbridged c.in-Unbridged.a c.in-Unbridged.b) f.calls now) c.self-in-Unbridged.view_is after.applied))
