@@ -9,7 +9,7 @@ import unittest
 import loop_library
 from support import SPEECH, TOP, InFolder
 
-from trau.recordings import capture_walk
+from trau.recordings.capture_walk import walk
 from trau.recordings.udp_layers import Unread, udp_of
 from trau.rules import rtp
 from trau.rules.payload_types import GSM, PCMA, PCMU
@@ -26,10 +26,10 @@ LEVEL_AND_DTX = bytes((1, 0, 1))
 
 def datagrams(path):
     """The first datagrams of RTP in a capture that a call may take."""
-    found = []
-    for packet in capture_walk.packets(path.read_bytes()):
+    data, interfaces, found = path.read_bytes(), [], []
+    for _, which, place, captured, _ in walk(data, interfaces):
         try:
-            _, content, _ = udp_of(packet.octets, packet.link)
+            _, content, _ = udp_of(data[place : place + captured], interfaces[which].link)
         except Unread:
             continue
         if len(content) > rtp.HEADER.size and content[1] & 127 in SIDES:

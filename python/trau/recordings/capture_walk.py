@@ -1,10 +1,9 @@
 """The packets of captures, pcap and pcapng (draft-ietf-opsawg-pcap, draft-ietf-opsawg-pcapng), in
 one pass over their blocks.
 
-`walk` gives where each packet is in the capture's octets, which may be a mapped file; `packets`
-gives each with its octets, the link and the clock of its own interface. Both give all packets
-before a place where the capture is broken, and then raise BrokenCapture, whose text says what is
-wrong there.
+`walk` gives where each packet is in the capture's octets, which may be a mapped file, and the
+interface that it was captured on. It gives all packets before a place where the capture is broken,
+and then raises BrokenCapture, whose text says what is wrong there.
 """
 
 import mmap
