@@ -1,10 +1,8 @@
-/* The gateway's loop: a clock with four phases, epoll, recv, send, and the rings of pump.h. docs/GATEWAY.md has the rules. */
+/* The gateway's loop: what a turn of the clock does with the calls of a phase, what commands do, and the thread. docs/GATEWAY.md has the rules. */
 #define _GNU_SOURCE
-#include "pump_end.h"
+#include "pump_parts.h"
 #include <errno.h>
-#include <pthread.h>
 #include <signal.h>
-#include <stdatomic.h>
 #include <stdlib.h>
 #include <string.h>
 #include <sys/epoll.h>
@@ -14,145 +12,15 @@
 
 enum { READY = 512, MOST_PACKETS = 4, MOST_OCTETS = 1500, FEWEST_SOCKETS = 25, MOST_OLD = 2000, WAKING = 5 };
 static const int64_t SECOND = 1000000000, MOST_DROPPING = 100000000, DROPPING_AT_A_TICK = 1000000, SLICE = 100000;
-static const uint32_t SIZES[PUMP_LINES] = {40, 160, 40, 160}; /* octets of a period of Up, Pcm, Down and Out */
 
 const uint32_t pump_sizes[7] = {sizeof(struct pump_report), sizeof(struct pump_command), sizeof(struct pump_side),
                                 sizeof(struct pump_event),  sizeof(struct pump_block),   sizeof(struct pump_state),
                                 sizeof(struct trau_call_settings)};
 
-/* One thread writes it and one reads it. Counters go on modulo 2^32, of which its size is a divisor. */
-struct ring { uint32_t size, read; atomic_uint written; };
-
-struct slot {
-    struct trau_call call;
-    struct end ends[PUMP_SIDES];
-    bool is_begun, is_open, is_recorded, dtx; /* is_begun: the call's handle has a call */
-    int16_t level;
-    uint32_t phase, place; /* its place in the list of its phase */
-    uint32_t held_up;
-    struct slot *partner;
-    struct pump_block *block; /* that is being filled */
-};
-
-struct phase { struct slot **slots; uint32_t count; int poll; };
-
-struct pump {
-    struct slot *slots;
-    struct phase phases[PUMP_PHASES];
-    struct pump_clock *clock;
-    uint32_t slot_count, every, staged, answered;
-    struct ring commands, events, returned;
-    struct pump_command *command; /* to the loop */
-    struct pump_report *report;   /* by commands */
-    struct pump_event *event;     /* from the loop. As large as all blocks and commands together, so there is always room */
-    struct pump_block *blocks;
-    uint8_t *octets;   /* of all blocks */
-    uint32_t *emptied; /* numbers of blocks that return */
-    bool has_overflowed;
-    uint8_t datagram[MOST_DATAGRAM];
-    pthread_t thread;
-    int wakes;
-    uint32_t until;
-    atomic_bool is_to_stop, has_ended;
-    atomic_uint period;
-};
-
-static int64_t now(void) {
+int64_t loop_now(void) {
     struct timespec t;
-    clock_gettime(CLOCK_BOOTTIME, &t); /* also the time in which the machine was suspended */
+    clock_gettime(CLOCK_BOOTTIME, &t);
     return t.tv_sec * SECOND + t.tv_nsec;
-}
-
-/* ---- rings */
-
-static bool has_more(struct ring *ring) {
-    return ring->read != atomic_load_explicit(&ring->written, memory_order_acquire);
-}
-
-/* The place that is read next, and that which is written next; what is there is the other thread's after `publish`. */
-static uint32_t read_place(struct ring *ring) {
-    return ring->read++ % ring->size;
-}
-
-static uint32_t write_place(const struct ring *ring) {
-    return atomic_load_explicit(&ring->written, memory_order_relaxed) % ring->size;
-}
-
-static void publish(struct ring *ring, uint32_t count) {
-    atomic_fetch_add_explicit(&ring->written, count, memory_order_release);
-}
-
-static void tell(struct pump *pump, uint32_t kind, uint32_t number, uint32_t period) {
-    pump->event[write_place(&pump->events)] = (struct pump_event){kind, number, period};
-    publish(&pump->events, 1);
-}
-
-bool pump_take_event(struct pump *pump, struct pump_event *event) {
-    if (!has_more(&pump->events))
-        return false;
-    *event = pump->event[read_place(&pump->events)];
-    pump->answered += event->kind == PUMP_ANSWER;
-    return true;
-}
-
-void pump_report_of(const struct pump *pump, uint32_t number, struct pump_report *report) {
-    *report = pump->report[number % pump->commands.size];
-}
-
-const struct pump_block *pump_block_of(const struct pump *pump, uint32_t number) {
-    return &pump->blocks[number];
-}
-
-void pump_return_block(struct pump *pump, uint32_t number) {
-    pump->emptied[write_place(&pump->returned)] = number;
-    publish(&pump->returned, 1);
-}
-
-bool pump_stage(struct pump *pump, const struct pump_command *command) {
-    if (pump->staged - pump->answered >= pump->commands.size)
-        return false;
-    pump->command[pump->staged++ % pump->commands.size] = *command;
-    return true;
-}
-
-void pump_publish(struct pump *pump) {
-    atomic_store_explicit(&pump->commands.written, pump->staged, memory_order_release);
-}
-
-/* ---- records */
-
-/* Hands a slot's block over, if it has one. */
-static void hand_over(struct pump *pump, struct slot *slot, uint32_t period) {
-    if (slot->block)
-        tell(pump, PUMP_BLOCK, (uint32_t)(slot->block - pump->blocks), period);
-    slot->block = NULL;
-}
-
-/* Gives a slot an empty block. If nobody returns blocks, the disk is too slow, and the lines of all calls end here: a line has no gap. */
-static bool has_block(struct pump *pump, struct slot *slot, uint32_t period) {
-    if (slot->block)
-        return true;
-    if (!has_more(&pump->returned)) {
-        pump->has_overflowed = true;
-        tell(pump, PUMP_OVERFLOW, 0, period);
-        return false;
-    }
-    slot->block = &pump->blocks[pump->emptied[read_place(&pump->returned)]];
-    slot->block->slot = (uint32_t)(slot - pump->slots);
-    slot->block->periods = 0;
-    return true;
-}
-
-static void keep(struct pump *pump, struct slot *slot, const struct trau_record *record, uint32_t period) {
-    const uint8_t *lines[PUMP_LINES] = {record->up, record->pcm, record->down, record->out};
-    if (!slot->is_recorded || pump->has_overflowed || !has_block(pump, slot, period))
-        return;
-    uint8_t *at = slot->block->octets;
-    for (int k = 0; k < PUMP_LINES; at += SIZES[k] * pump->every, k++)
-        memcpy(at + SIZES[k] * slot->block->periods, lines[k], SIZES[k]);
-    /* Each slot has its own period of `every`, so that the blocks of many calls don't come at once. */
-    if (++slot->block->periods == pump->every || (period + slot->block->slot) % pump->every == 0)
-        hand_over(pump, slot, period);
 }
 
 /* ---- what comes. An end's number is its slot's and its side's */
@@ -235,7 +103,7 @@ static void drop_old(struct pump *pump, uint32_t phase, int64_t until, uint32_t 
     for (uint32_t k = 0; k < PUMP_SIDES * pump->phases[phase].count; k++) {
         uint32_t slot = (uint32_t)(pump->phases[phase].slots[k / PUMP_SIDES] - pump->slots);
         uint32_t number = PUMP_SIDES * slot + k % PUMP_SIDES;
-        if (end_of(pump, number)->is_old && now() < until)
+        if (end_of(pump, number)->is_old && loop_now() < until)
             drop(pump, number, tick);
     }
 }
@@ -247,7 +115,7 @@ static void give_up(struct slot *slot, uint32_t periods, uint32_t period) {
 }
 
 void pump_give_up(struct pump *pump, const struct pump_turn *turn) {
-    int64_t until = now() + MOST_DROPPING;
+    int64_t until = loop_now() + MOST_DROPPING;
     for (uint32_t phase = 0; phase < PUMP_PHASES; phase++) {
         for (uint32_t k = 0; k < pump->phases[phase].count; k++)
             give_up(pump->phases[phase].slots[k], turn->given_up, turn->period);
@@ -262,7 +130,7 @@ static void speak(struct pump *pump, struct slot *slot, bool to_gsm, const struc
     end_send(&slot->ends[TRAU_CALL_PCM], datagrams->pcm, sizeof datagrams->pcm);
     if (to_gsm)
         end_send(&slot->ends[TRAU_CALL_GSM], datagrams->gsm, sizeof datagrams->gsm);
-    keep(pump, slot, record, tick);
+    loop_keep(pump, slot, record, tick);
 }
 
 static void turn_one(struct pump *pump, struct slot *slot, uint32_t tick) {
@@ -283,7 +151,7 @@ static void turn_pair(struct pump *pump, struct slot *one, struct slot *other, u
 void pump_process(struct pump *pump, const struct pump_turn *turn) {
     const struct phase *phase = &pump->phases[turn->phase];
     read_phase(pump, turn);
-    drop_old(pump, turn->phase, now() + DROPPING_AT_A_TICK, turn->period);
+    drop_old(pump, turn->phase, loop_now() + DROPPING_AT_A_TICK, turn->period);
     for (uint32_t k = 0; k < phase->count; k++) {
         struct slot *slot = phase->slots[k];
         slot->held_up += turn->behind > 0;
@@ -354,7 +222,7 @@ static void report_on(const struct slot *slot, struct pump_report *report) {
 static void close_slot(struct pump *pump, struct slot *slot, uint32_t period) {
     for (uint32_t side = 0; side < PUMP_SIDES; side++)
         watch(pump, EPOLL_CTL_DEL, slot, side, slot->phase);
-    hand_over(pump, slot, period);
+    loop_hand_over(pump, slot, period);
     leave(pump, slot);
     slot->is_open = false;
 }
@@ -383,11 +251,11 @@ static void execute(struct pump *pump, const struct pump_command *command, struc
 }
 
 bool pump_execute(struct pump *pump, uint32_t period) {
-    bool is_any = has_more(&pump->commands);
-    while (has_more(&pump->commands)) {
-        uint32_t number = pump->commands.read, at = read_place(&pump->commands);
+    bool is_any = ring_has_more(&pump->commands);
+    while (ring_has_more(&pump->commands)) {
+        uint32_t number = pump->commands.read, at = ring_read(&pump->commands);
         execute(pump, &pump->command[at], &pump->report[at], period);
-        tell(pump, PUMP_ANSWER, number, period);
+        loop_tell(pump, PUMP_ANSWER, number, period);
     }
     return is_any;
 }
@@ -413,13 +281,13 @@ void pump_dismiss(struct pump *pump, uint32_t number) {
 }
 
 static struct pump_turn next_turn(struct pump_clock *clock) {
-    int64_t begun = now(), due = pump_clock_due(clock);
+    int64_t begun = loop_now(), due = pump_clock_due(clock);
     struct timespec until = {due / SECOND, due % SECOND};
     if (begun >= due)
         return pump_clock_turn(clock, begun, begun);
     while (clock_nanosleep(CLOCK_BOOTTIME, TIMER_ABSTIME, &until, NULL) == EINTR)
         ;
-    return pump_clock_turn(clock, begun, now());
+    return pump_clock_turn(clock, begun, loop_now());
 }
 
 /* ---- the thread */
@@ -437,7 +305,7 @@ static bool is_last(struct pump *pump, const struct pump_turn *turn) {
 static void take_turn(struct pump *pump, const struct pump_turn *turn) {
     if (turn->given_up) {
         pump_give_up(pump, turn);
-        tell(pump, PUMP_GAVE_UP, turn->given_up, turn->period);
+        loop_tell(pump, PUMP_GAVE_UP, turn->given_up, turn->period);
     }
     if (turn->phase == 0) { /* the period first, so that who has an answer knows that its period has begun */
         atomic_store_explicit(&pump->period, turn->period, memory_order_release);
@@ -476,7 +344,7 @@ int pump_start(struct pump *pump, uint32_t until, int wakes) {
     pump->until = until;
     pump->wakes = wakes;
     free(pump->clock);
-    if (!(pump->clock = pump_clock_new(now())))
+    if (!(pump->clock = pump_clock_new(loop_now())))
         return ENOMEM;
     sigfillset(&all);
     pthread_sigmask(SIG_SETMASK, &all, &before); /* Python takes signals */
@@ -495,73 +363,4 @@ void pump_state(struct pump *pump, struct pump_state *state) {
     state->has_ended = atomic_load_explicit(&pump->has_ended, memory_order_acquire);
     state->period = atomic_load_explicit(&pump->period, memory_order_acquire);
     pump_clock_state(pump->clock, state);
-}
-
-/* ---- memory */
-
-static uint32_t power_of_two(uint32_t least) {
-    uint32_t size = 1;
-    while (size < least)
-        size *= 2;
-    return size;
-}
-
-static bool has_phases(struct pump *pump) {
-    bool is_whole = true;
-    for (uint32_t phase = 0; phase < PUMP_PHASES; phase++) {
-        pump->phases[phase].slots = calloc(pump->slot_count, sizeof *pump->phases[phase].slots);
-        pump->phases[phase].poll = epoll_create1(EPOLL_CLOEXEC);
-        is_whole = is_whole && pump->phases[phase].slots && pump->phases[phase].poll >= 0;
-    }
-    return is_whole;
-}
-
-static bool has_rings(struct pump *pump, uint32_t blocks, uint32_t commands) {
-    pump->commands.size = power_of_two(commands);
-    pump->returned.size = power_of_two(blocks);
-    /* Each place of both, and time that is given up, at most once a second. */
-    pump->events.size = 2 * power_of_two(pump->commands.size + pump->returned.size);
-    pump->command = calloc(pump->commands.size, sizeof *pump->command);
-    pump->report = calloc(pump->commands.size, sizeof *pump->report);
-    pump->event = calloc(pump->events.size, sizeof *pump->event);
-    pump->emptied = calloc(pump->returned.size, sizeof *pump->emptied);
-    return pump->command && pump->report && pump->event && pump->emptied;
-}
-
-static bool has_blocks(struct pump *pump, uint32_t blocks) {
-    size_t size = sizeof(struct trau_record) * pump->every;
-    pump->blocks = calloc(blocks, sizeof *pump->blocks);
-    pump->octets = malloc(blocks * size);
-    if (!pump->blocks || !pump->octets)
-        return false;
-    for (uint32_t k = 0; k < blocks; k++) {
-        pump->blocks[k].octets = pump->octets + k * size;
-        pump_return_block(pump, k);
-    }
-    return true;
-}
-
-void pump_free(struct pump *pump) {
-    for (uint32_t phase = 0; phase < PUMP_PHASES; phase++) {
-        close(pump->phases[phase].poll);
-        free(pump->phases[phase].slots);
-    }
-    void *parts[] = {pump->slots, pump->command, pump->report, pump->event, pump->blocks, pump->octets, pump->emptied, pump->clock, pump};
-    for (size_t k = 0; k < sizeof parts / sizeof *parts; k++)
-        free(parts[k]);
-}
-
-struct pump *pump_new(uint32_t slots, uint32_t every, uint32_t blocks, uint32_t commands) {
-    struct pump *pump = calloc(1, sizeof *pump);
-    if (!pump)
-        return NULL;
-    pump->slot_count = slots;
-    pump->every = every;
-    pump->slots = calloc(slots, sizeof *pump->slots);
-    pump->clock = pump_clock_new(now());
-    bool is_whole = has_phases(pump) && has_rings(pump, blocks, commands) && has_blocks(pump, blocks);
-    if (is_whole && pump->slots && pump->clock)
-        return pump;
-    pump_free(pump);
-    return NULL;
 }

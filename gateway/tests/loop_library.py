@@ -17,7 +17,7 @@ from support import GATEWAY, TOP
 from trau.gateway import pump
 
 CLIB = Path(os.environ.get("TRAU_CLIB") or TOP / "clib" / "out")
-PARTS = "pump.c", "pump_clock.c", "pump_end.c"
+PARTS = "pump.c", "pump_clock.c", "pump_end.c", "pump_rings.c"
 STRICT = "-Wall -Wextra -Wpedantic -Wshadow -Wconversion -Werror".split()
 # By what they watch: what the compiler is told, and what has to be loaded before the program.
 SANITIZERS = {
