@@ -7,3 +7,4 @@ pub mod ByNumber
 pub mod Open
 pub mod Close
 pub mod Changed
+pub mod Set
